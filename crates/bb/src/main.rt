@@ -1,5 +1,5 @@
-//! The blackboard shell as a program: it serves its standard input on its standard output, as the words of its command
-//! line say, and on standard error it says why an input is refused.
+//! The blackboard shell as a program: it serves standard input on standard output, with the options of its command
+//! line. On standard error it says why an input is refused, and writes the advice on a checked one.
 #![tactic(auto)]
 
 use bb_main::{Intake, Options, OptionsFault, Pipe, answer_words, options, program};
@@ -20,13 +20,13 @@ fn main(rt: HostRuntime) -> ExitCode {
     ExitCode::from(status)
 }
 
-// What the words after the program's name choose.
+// Returns the options that the words after the program's name choose.
 fn chosen<R: Env + AllocGlobal>(rt: &R) -> Result<Options, OptionsFault> {
     let words = words(rt)?;
     options(rt.alloc(), words.as_slice())
 }
 
-// The words after the program's name, which have to be UTF-8.
+// Returns the words after the program's name, which have to be UTF-8.
 fn words<R: Env + AllocGlobal>(rt: &R) -> Result<Vec<String>, OptionsFault> {
     match env::args(rt) {
         Ok(all) => Ok(all.skip(1).collect(rt.alloc())?),

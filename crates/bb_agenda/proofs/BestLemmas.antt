@@ -15,12 +15,12 @@ use Rattle.std.proofs.lemmas.Option.{slice_get_past}
 use Rattle.std.proofs.lemmas.Int.{ints}
 use Rattle.bb_agenda.specs.declared.choosing.Candidate.{Candidate}
 use Rattle.bb_agenda.specs.declared.rank.Rank.{Rank}
-use Rattle.bb_agenda_foci.specs.Foci.{Steered}
-use Rattle.bb_agenda_foci.specs.Rating.{total_weight}
+use Rattle.bb_agenda.specs.focusing.Foci.{Steered}
+use Rattle.bb_agenda.specs.focusing.Rating.{total_weight}
 use Rattle.bb_agenda.specs.proving.Best.{rate_by, precedes, better, StandsFor, IsFirst, BestOf}
 use Rattle.bb_agenda.specs.proving.Ranks.{rank_cmp, is_ranked}
-use Rattle.bb_agenda_foci.specs.Matching.{matches_at}
-use Rattle.bb_agenda_foci.proofs.Laws.{rating_by_weight}
+use Rattle.bb_agenda.specs.focusing.Matching.{matches_at}
+use Rattle.bb_agenda.proofs.focusing_lemmas.Laws.{rating_by_weight}
 use Rattle.bb_agenda.proofs.ChosenLemmas.{Precedes, precedes_decides, precedes_further, precedes_past}
 
 -- a rating is a base and what all activations of the source get

@@ -8,11 +8,11 @@ use Rattle.std.proofs.lemmas.List.Elements.{filter_map-append}
 use Rattle.std.proofs.lemmas.List.Folds.{find-append}
 use Rattle.std.proofs.lemmas.List.FromFn.{length-map-range_with_len, map-range_with_len_more, get_or-map-range_with_len}
 use Rattle.std.proofs.lemmas.Option.{slice_get-get_or, slice_get_past}
-use Rattle.bb_agenda_foci.specs.declared.activation.Activation.{Activation}
+use Rattle.bb_agenda.specs.declared.focusing.activation.Activation.{Activation}
 use Rattle.bb_agenda.specs.declared.status.Status.{Status}
 use Rattle.bb_agenda.specs.declared.status.Status.TheVariants as statuses
 use Rattle.bb_agenda.specs.Agenda.{Agenda, Entry, pending, executed, obviated, if_pending, status_of, entry_of, status, is_full, has_number, number_of, pending_at}
-use Rattle.bb_agenda_foci.specs.Foci.{Foci, Setting}
+use Rattle.bb_agenda.specs.focusing.Foci.{Foci, Setting}
 use Rattle.bb_agenda.specs.Changes.{with_activation, becoming, based_at, other_than, rebased}
 use Rattle.bb_agenda.specs.declared.agenda.TheConstants.{PENDING_LIMIT, NUMBER_LIMIT}
 use Rattle.bb_agenda.specs.Fits.{RisesBy, Fits}

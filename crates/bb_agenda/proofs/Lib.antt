@@ -15,3 +15,4 @@ pub mod RankLemmas
 pub mod RisingLemmas
 pub mod RowLemmas
 pub mod Rows
+pub mod focusing_lemmas

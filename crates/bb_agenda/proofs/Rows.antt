@@ -5,13 +5,13 @@ use Rattle.std.specs.Ordering.{nat_cmp}
 use Rattle.std.specs.Map.{keys_of, values_of}
 use Rattle.std.specs.List.Sorted.{IsStrictlySortedBy}
 use Rattle.bb_schema.specs.Schema.{Schema}
-use Rattle.bb_agenda_foci.specs.declared.activation.Activation.{Activation}
-use Rattle.bb_agenda_foci.specs.declared.focus.Focus.{Focus}
-use Rattle.bb_agenda_foci.specs.declared.setting.RatedSource.{RatedSource}
-use Rattle.bb_agenda_foci.specs.Foci.{Foci}
-use Rattle.bb_agenda_foci.specs.Matching.{is_source, is_ancestor, is_area, matches}
-use Rattle.bb_agenda_foci.specs.Rating.{total_weight, rating}
-use Rattle.bb_agenda_foci.proofs.Laws.{values_are}
+use Rattle.bb_agenda.specs.declared.focusing.activation.Activation.{Activation}
+use Rattle.bb_agenda.specs.declared.focusing.focus.Focus.{Focus}
+use Rattle.bb_agenda.specs.declared.focusing.setting.RatedSource.{RatedSource}
+use Rattle.bb_agenda.specs.focusing.Foci.{Foci}
+use Rattle.bb_agenda.specs.focusing.Matching.{is_source, is_ancestor, is_area, matches}
+use Rattle.bb_agenda.specs.focusing.Rating.{total_weight, rating}
+use Rattle.bb_agenda.proofs.focusing_lemmas.Laws.{values_are}
 use Rattle.bb_agenda.specs.Agenda.{Agenda, no_activations, pending_of}
 use Rattle.bb_agenda.specs.Changes.{with_activation, with_focus}
 use Rattle.bb_agenda.specs.Chosen.{chosen}

@@ -1,15 +1,15 @@
--- The agenda: all activations that were ever given, and which are pending (GBBopen Reference Manual, Agenda Shell), and
--- the foci by which they are rated (of this project).
+-- The agenda: all activations ever added, and which are pending (GBBopen Reference Manual, Agenda Shell), and the foci
+-- that rate them (of this project).
 use Rattle.std.specs.Prelude.{ℕ, zero, suc, ◌+◌, Bool, false, ◌||◌, ◌==◌, nat_le, List, [], map, filter, find, length, slice_get, Option, Some, None, option_map}
 use Rattle.std.specs.List.{filter_map}
 use Rattle.std.specs.FinMap as fin
-use Rattle.bb_agenda_foci.specs.declared.activation.Activation.{Activation}
+use Rattle.bb_agenda.specs.declared.focusing.activation.Activation.{Activation}
 use Rattle.bb_agenda.specs.declared.status.Status.{Status}
 use Rattle.bb_agenda.specs.declared.status.Status.TheVariants as statuses
 use Rattle.bb_agenda.specs.declared.agenda.TheConstants.{PENDING_LIMIT, NUMBER_LIMIT}
-use Rattle.bb_agenda_foci.specs.Foci.{Foci, Setting}
+use Rattle.bb_agenda.specs.focusing.Foci.{Foci, Setting}
 
--- what became of an activation: it is pending, or it was executed, or obviated
+-- what became of an activation: it is pending, executed or obviated
 pub data Entry : Type 0 where
   pending : Activation → Entry
   executed : Entry
@@ -28,20 +28,20 @@ status_of executed = statuses.Executed
 status_of obviated = statuses.Obviated
 
 pub record Agenda : Type 0 where
-  -- all activations that were ever given, in order of their numbers, from 1
+  -- all activations ever added, in ascending order of their numbers, from 1
   pub given : List Entry
   -- the foci that are set
   pub foci : Foci
   -- what the foci are matched with
   pub setting : Setting
-  -- whether memory was refused to a change; from then on each change is refused
+  -- whether memory was refused to a change; once it was, every change is refused
   pub refused : Bool
 
--- an agenda to which no activation was given, and without foci
+-- an agenda without activations and foci
 abbrev pub no_activations : Setting → Agenda
 no_activations setting = record { given = []; foci = fin.empty; setting = setting; refused = false }
 
--- what is pending, in order of the numbers
+-- the pending activations, in ascending order of their numbers
 abbrev pub pending_of : Agenda → List Activation
 pending_of a = filter_map if_pending a.given
 
@@ -53,7 +53,7 @@ number_of a = a.number
 abbrev pub has_number : ℕ → Activation → Bool
 has_number number a = a.number == number
 
--- the activation is one of this source
+-- the activation belongs to this source
 abbrev pub is_of : ℕ → Activation → Bool
 is_of source a = a.source == source
 
@@ -61,27 +61,27 @@ is_of source a = a.source == source
 abbrev pub is_on : ℕ → Activation → Bool
 is_on unit a = a.unit == unit
 
--- the numbers of what is pending
+-- the numbers of the pending activations
 abbrev pub numbers_pending : Agenda → List ℕ
 numbers_pending a = map number_of (pending_of a)
 
--- what is pending of a source
+-- the pending activations of a source
 abbrev pub pending_for : Agenda → ℕ → List Activation
 pending_for a source = filter (is_of source) (pending_of a)
 
--- the numbers of what is pending of a source
+-- the numbers of the pending activations of a source
 abbrev pub numbers_for : Agenda → ℕ → List ℕ
 numbers_for a source = map number_of (pending_for a source)
 
--- what is pending for a unit
+-- the pending activations for a unit
 abbrev pub pending_on : Agenda → ℕ → List Activation
 pending_on a unit = filter (is_on unit) (pending_of a)
 
--- the numbers of what is pending for a unit
+-- the numbers of the pending activations for a unit
 abbrev pub numbers_on : Agenda → ℕ → List ℕ
 numbers_on a unit = map number_of (pending_on a unit)
 
--- the pending activation of a number
+-- the pending activation with a number
 abbrev pub pending_at : Agenda → ℕ → Option Activation
 pending_at a number = find (has_number number) (pending_of a)
 
@@ -90,7 +90,7 @@ abbrev pub entry_of : Agenda → ℕ → Option Entry
 entry_of a zero = None
 entry_of a (suc index) = slice_get a.given index
 
--- what became of the activation of a number, if the number was given
+-- what became of the activation with a number, if the number was given
 abbrev pub status : Agenda → ℕ → Option Status
 status a number = option_map status_of (entry_of a number)
 
@@ -98,6 +98,6 @@ status a number = option_map status_of (entry_of a number)
 abbrev pub next_number : Agenda → ℕ
 next_number a = length a.given + 1
 
--- no activation can be added: as many are pending as may be, or the last number was given
+-- no activation can be added: the maximum number are pending, or the last number was given
 abbrev pub is_full : Agenda → Bool
 is_full a = nat_le PENDING_LIMIT (length (pending_of a)) || nat_le NUMBER_LIMIT (length a.given)

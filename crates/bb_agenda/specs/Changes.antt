@@ -1,17 +1,17 @@
--- Each change of an agenda (GBBopen Reference Manual, Agenda Shell; those of foci are of this project).
+-- The changes of an agenda (GBBopen Reference Manual, Agenda Shell; those of foci are of this project).
 use Rattle.std.specs.Prelude.{ℕ, ℤ, Bool, true, not, [], ◌∷◌, ◌++◌, map, Result, Ok, Err, if◌then◌else◌}
 use Rattle.std.specs.FinMap as fin
-use Rattle.bb_agenda_foci.specs.declared.activation.Activation.{Activation}
+use Rattle.bb_agenda.specs.declared.focusing.activation.Activation.{Activation}
 use Rattle.bb_agenda.specs.declared.fault.AddFault.{AddFault}
 use Rattle.bb_agenda.specs.declared.fault.AddFault.TheVariants as faults
-use Rattle.bb_agenda_foci.specs.declared.focus.Focus.{Focus}
+use Rattle.bb_agenda.specs.declared.focusing.focus.Focus.{Focus}
 use Rattle.bb_agenda.specs.Agenda.{Agenda, Entry, pending, executed, obviated, has_number, next_number, is_full}
 
 -- the activation that is added next
 abbrev pub new_activation : Agenda → ℕ → ℕ → ℤ → Activation
 new_activation a source unit base = record { number = next_number a; source = source; unit = unit; base = base }
 
--- the agenda with one activation more, which is pending
+-- the agenda with another activation, which is pending
 abbrev pub with_activation : Agenda → ℕ → ℕ → ℤ → Agenda
 with_activation a source unit base =
     record a { given = a.given ++ pending (new_activation a source unit base) ∷ [] }
@@ -20,21 +20,21 @@ with_activation a source unit base =
 abbrev pub added_number : Agenda → Result ℕ AddFault
 added_number a = if is_full a then Err faults.Full else Ok (next_number a)
 
--- what becomes of an entry where the pending activation of this number gets another entry
+-- an entry, after the pending activation with this number gets another entry
 abbrev pub becoming : ℕ → (Activation → Entry) → Entry → Entry
 becoming number new_entry (pending a) = if has_number number a then new_entry a else pending a
 becoming number new_entry executed = executed
 becoming number new_entry obviated = obviated
 
--- the agenda where the pending activation of this number gets another entry; if there is none nothing changes
+-- the agenda, after the pending activation with this number gets another entry; unchanged if there is none
 abbrev pub with_entry : Agenda → ℕ → (Activation → Entry) → Agenda
 with_entry a number new_entry = record a { given = map (becoming number new_entry) a.given }
 
--- the agenda after the pending activation of this number is obviated
+-- the agenda after the pending activation with this number is obviated
 abbrev pub with_obviated : Agenda → ℕ → Agenda
 with_obviated a number = with_entry a number (λ _. obviated)
 
--- the agenda after the pending activation of this number is executed
+-- the agenda after the pending activation with this number is executed
 abbrev pub with_executed : Agenda → ℕ → Agenda
 with_executed a number = with_entry a number (λ _. executed)
 
@@ -42,19 +42,19 @@ with_executed a number = with_entry a number (λ _. executed)
 abbrev pub based_at : ℤ → Activation → Activation
 based_at base a = record { number = a.number; source = a.source; unit = a.unit; base = base }
 
--- the agenda after the pending activation of this number gets another base
+-- the agenda after the pending activation with this number gets another base
 abbrev pub with_base : Agenda → ℕ → ℤ → Agenda
 with_base a number base = with_entry a number (λ x. pending (based_at base x))
 
--- the agenda after the focus of a unit is this one
+-- the agenda after the focus of a unit is set
 abbrev pub with_focus : Agenda → ℕ → Focus → Agenda
 with_focus a unit focus = record a { foci = fin.insert a.foci unit focus }
 
--- the agenda after a unit has no focus any more
+-- the agenda after the focus of a unit is removed, if it had one
 abbrev pub without_focus : Agenda → ℕ → Agenda
 without_focus a unit = record a { foci = fin.remove a.foci unit }
 
--- the agenda, once memory was refused
+-- the agenda after memory was refused
 abbrev pub when_refused : Agenda → Agenda
 when_refused a = record a { refused = true }
 
@@ -63,7 +63,7 @@ abbrev pub after_add_fault : Agenda → AddFault → Agenda
 after_add_fault a faults.Full = a
 after_add_fault a faults.Memory = when_refused a
 
--- ---- what the changes do to what is pending
+-- ---- the effect of changes on pending activations
 
 -- the activation has another number
 abbrev pub other_than : ℕ → Activation → Bool

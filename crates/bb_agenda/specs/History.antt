@@ -1,12 +1,12 @@
--- Changes of an agenda one after another.
+-- Changes of an agenda in sequence.
 use Rattle.std.specs.Prelude.{ℕ, ℤ, List}
 use Rattle.std.specs.List.{fold}
-use Rattle.bb_agenda_foci.specs.declared.focus.Focus.{Focus}
+use Rattle.bb_agenda.specs.declared.focusing.focus.Focus.{Focus}
 use Rattle.bb_agenda.specs.Agenda.{Agenda}
 use Rattle.bb_agenda.specs.Changes.{with_activation, with_obviated, with_executed, with_base, with_focus, without_focus}
 use Rattle.bb_agenda.specs.Changes.{when_refused}
 
--- one change, or that memory was refused to one
+-- one change, or a refusal of memory to one
 pub data Change : Type 0 where
   adding : (source unit : ℕ) (base : ℤ) → Change
   obviating : (number : ℕ) → Change
@@ -26,6 +26,6 @@ changed a (focusing unit focus) = with_focus a unit focus
 changed a (unfocusing unit) = without_focus a unit
 changed a refusing = when_refused a
 
--- the agenda after some changes, in order
+-- the agenda after changes, in order
 abbrev pub after : List Change → Agenda → Agenda
 after changes a = fold changed a changes

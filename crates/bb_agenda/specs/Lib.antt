@@ -1,20 +1,23 @@
--- all activations that were given, what is pending of them, and the foci
+-- all activations ever added, which are pending, and the foci
 pub mod Agenda
--- each change of an agenda
+-- the changes of an agenda
 pub mod Changes
--- what holds of an agenda at any time
+-- the invariant of an agenda
 pub mod Fits
--- changes one after another
+-- changes in sequence
 pub mod History
 -- the rating of an activation by the foci of an agenda
 pub mod Rating
 -- the activation that a cycle executes
 pub mod Chosen
--- for proofs alone
+-- for proofs only
 pub mod proving
--- activations, foci, and what foci give
-pub use Rattle.bb_agenda_foci.specs.Foci
-pub use Rattle.bb_agenda_foci.specs.Matching
-pub use Rattle.bb_agenda_foci.specs.declared.activation.Activation
-pub use Rattle.bb_agenda_foci.specs.declared.focus.Focus
-pub use Rattle.bb_agenda_foci.specs.declared.setting.RatedSource
+-- activations, foci, and which activations foci match
+pub use Rattle.bb_agenda.specs.focusing.Foci
+pub use Rattle.bb_agenda.specs.focusing.Matching
+pub use Rattle.bb_agenda.specs.declared.focusing.activation.Activation
+pub use Rattle.bb_agenda.specs.declared.focusing.focus.Focus
+pub use Rattle.bb_agenda.specs.declared.focusing.setting.RatedSource
+-- how foci rate activations: which activations a focus matches, and the rating of an activation, its base plus the
+-- weights of the foci that match it
+pub mod focusing

@@ -1,8 +1,8 @@
 -- The rating of an activation by the foci of an agenda.
 use Rattle.std.specs.Prelude.{ℤ}
-use Rattle.bb_agenda_foci.specs.declared.activation.Activation.{Activation}
+use Rattle.bb_agenda.specs.declared.focusing.activation.Activation.{Activation}
 use Rattle.bb_agenda.specs.Agenda.{Agenda}
-pub use Rattle.bb_agenda_foci.specs.Rating.{rating, total_weight}
+pub use Rattle.bb_agenda.specs.focusing.Rating.{rating, total_weight}
 
 -- the rating of an activation by the foci of an agenda
 abbrev pub rating_in : Agenda → Activation → ℤ

@@ -2,13 +2,13 @@
 pub mod Kept
 -- sets of numbers as bits
 pub mod Numbers
--- in which order the activations of a source are executed
+-- the order in which the activations of a source are executed
 pub mod Ranks
--- how the code finds what is pending
+-- how the code finds pending activations
 pub mod Filed
--- lists of numbers that rise, by source and by unit
+-- ascending lists of numbers, by source and by unit
 pub mod Lists
--- the best of all that are pending
+-- the best pending activation
 pub mod Best
--- how an agenda is stored
+-- how an agenda is encoded
 pub mod Codes

@@ -1,10 +1,10 @@
-//! The agenda. The calls here read it, those in `changes` change it. A run (bb_run) adds to it what events trigger, and
-//! takes off it what a cycle executes.
+//! The agenda. The functions here read it; those in `changes` change it. A run (bb_run) adds the activations that
+//! events trigger and removes those that a cycle executes.
 
 ghost use Rattle.std.specs.Prelude.{◌≡◌, Contains, IfSome, IsSome, Some, option_map};
 ghost use Rattle.bb_agenda.specs.Agenda.{no_activations, pending_of, is_full, number_of, numbers_pending, numbers_for, numbers_on};
 ghost use Rattle.bb_agenda.specs.Agenda.{pending_at, pending_for, pending_on, status};
-ghost use Rattle.bb_agenda_foci.specs.declared.activation.Activation.{Activation};
+ghost use Rattle.bb_agenda.specs.declared.focusing.activation.Activation.{Activation};
 ghost use Rattle.bb_agenda.specs.Fits.{Fits};
 ghost use Rattle.bb_agenda.specs.Rating.{rating_in};
 ghost use Rattle.bb_agenda.specs.Chosen.{chosen};
@@ -12,26 +12,26 @@ ghost use Rattle.bb_agenda.specs.Chosen.{chosen};
 mod changes;
 mod steps;
 
+use crate::focusing::{Activation, RatedSource, Setting, Steering};
 use crate::number_set::NumberSet;
 use crate::status::Status;
 use crate::waiting::Waiting;
-use bb_agenda_foci::{Activation, RatedSource, Setting, Steering};
 use bb_schema::{SharedSchema, UnitId};
 use std::alloc::Global;
 use std::marker::Model;
 
-/// The greatest number of pending activations.
+/// The maximum number of pending activations.
 pub const PENDING_LIMIT: usize = 65_536;
 
-/// The greatest number of an activation.
+/// The last number an activation can get.
 pub const NUMBER_LIMIT: u64 = (1 << 63) - 1;
 
-/// All activations that were ever given, each under its number, what is pending of them, the foci that are set, and
-/// whether memory was refused to a change (GBBopen Reference Manual, Agenda Shell; foci are of this project). From then
-/// on each change is refused. Of activations that are over it keeps only how many there were, and which of them were
+/// All activations ever added, each under its number; which of them are pending; the foci that are set; and whether
+/// memory was refused to a change (GBBopen Reference Manual, Agenda Shell; foci are of this project). Once it was,
+/// every change is refused. Of activations no longer pending, the agenda keeps only how many there were and which were
 /// obviated.
 pub struct Agenda {
-    // The number of activations that were given.
+    // How many activations were added.
     given: u64,
     waiting: Waiting,
     obviated: NumberSet,
@@ -39,7 +39,7 @@ pub struct Agenda {
     refused: bool,
 }
 
-// By hand, so that a proof meets one call where it is dropped, and not each of its parts.
+// By hand: proofs then meet one call per drop, not one per part.
 impl Drop for Agenda {
     fn drop(self) {
         let Agenda {
@@ -74,8 +74,8 @@ impl Model for Agenda {
 }
 
 impl Agenda {
-    /// An agenda with nothing on it and without foci, whose first activation gets number 1. `sources` has what the
-    /// agenda knows of each source, at that source's index. It allocates nothing.
+    /// Creates an agenda without activations or foci; the first activation gets number 1. `sources` has what the agenda
+    /// knows of each source, at the source's index. Allocates nothing.
     pub fn new(alloc: Global, schema: SharedSchema, sources: Vec<RatedSource>) -> Agenda
         ensures { result ≡ no_activations (record { schema = schema; sources = sources.items }) }
     {
@@ -88,21 +88,22 @@ impl Agenda {
         }
     }
 
-    /// Whether no activation can be added: `PENDING_LIMIT` are pending, or each number up to `NUMBER_LIMIT` was given.
+    /// Returns whether no activation can be added: `PENDING_LIMIT` are pending, or every number up to `NUMBER_LIMIT`
+    /// was given.
     pub fn is_full(&self) -> bool
         ensures { result ≡ is_full self.now }
     {
         self.waiting.len() >= PENDING_LIMIT || self.given >= NUMBER_LIMIT
     }
 
-    /// The numbers of what is pending, rising.
+    /// Returns the numbers of the pending activations, in ascending order.
     pub fn pending(&self) -> &[u64]
         ensures { result.now ≡ numbers_pending self.now }
     {
         self.waiting.numbers()
     }
 
-    /// The numbers of what is pending of a source, rising.
+    /// Returns the numbers of a source's pending activations, in ascending order.
     pub fn pending_for(&self, source: u16) -> &[u64]
         ensures numbers { result.now ≡ numbers_for self.now source }
         // Each activation is pending under its number.
@@ -112,7 +113,7 @@ impl Agenda {
         self.waiting.of_source(source)
     }
 
-    /// The numbers of what is pending for a unit, rising.
+    /// Returns the numbers of the pending activations for a unit, in ascending order.
     pub fn pending_on(&self, unit: UnitId) -> &[u64]
         ensures numbers { result.now ≡ numbers_on self.now unit }
         // Each activation is pending under its number.
@@ -122,7 +123,7 @@ impl Agenda {
         self.waiting.on_unit(unit)
     }
 
-    /// What became of the activation of a number, if the number was given.
+    /// Returns what became of the activation with a number, or `None` if the number was not given.
     pub fn status(&self, number: u64) -> Option<Status>
         ensures { result ≡ status self.now number }
     {
@@ -139,7 +140,7 @@ impl Agenda {
         Some(Status::Executed)
     }
 
-    /// The pending activation of a number.
+    /// Returns the pending activation with a number.
     pub fn activation(&self, number: u64) -> Activation
         requires { IsSome (pending_at self.now number) }
         ensures { pending_at self.now number ≡ Some result }
@@ -147,7 +148,7 @@ impl Agenda {
         self.waiting.get(number).unwrap()
     }
 
-    /// The rating of the pending activation of a number: its base, and the weights of all foci that match it.
+    /// Returns the rating of the pending activation with a number: its base plus the weights of all foci that match it.
     pub fn rating(&self, number: u64) -> i128
         requires { IsSome (pending_at self.now number) }
         ensures { option_map (rating_in self.now) (pending_at self.now number) ≡ Some result }
@@ -156,14 +157,14 @@ impl Agenda {
         self.steering.rating(&activation)
     }
 
-    /// The rating that an activation has, whatever became of it: its base, and the weights of all foci that match it.
+    /// Returns the rating of an activation, pending or not: its base plus the weights of all foci that match it.
     pub fn rating_of(&self, activation: &Activation) -> i128
         ensures { result ≡ rating_in self.now activation.now }
     {
         self.steering.rating(activation)
     }
 
-    /// The source of the pending activation of a number.
+    /// Returns the source of the pending activation with a number.
     pub fn source(&self, number: u64) -> u16
         requires { IsSome (pending_at self.now number) }
         ensures { option_map (λ a. a.source) (pending_at self.now number) ≡ Some result }
@@ -171,7 +172,7 @@ impl Agenda {
         self.activation(number).source
     }
 
-    /// The unit of the pending activation of a number, 0 where it has none.
+    /// Returns the unit of the pending activation with a number, or 0 if it has none.
     pub fn unit(&self, number: u64) -> UnitId
         requires { IsSome (pending_at self.now number) }
         ensures { option_map (λ a. a.unit) (pending_at self.now number) ≡ Some result }
@@ -179,8 +180,9 @@ impl Agenda {
         self.activation(number).unit
     }
 
-    /// The number of the activation to execute: of those rated at least `floor` the one of the highest rating, of
-    /// equals the one of the lowest number (Hayes-Roth 1985, scheduling). It compares the first of each source.
+    /// Returns the number of the activation to execute: of those rated at least `floor`, the one with the highest
+    /// rating; of equals, the one with the lowest number (Hayes-Roth 1985, scheduling). Compares only the first of each
+    /// source.
     pub fn choose(&self, floor: i64) -> Option<u64>
         ensures number { result ≡ option_map number_of (chosen (rating_in self.now) floor (pending_of self.now)) }
         ensures same { IfSome result (λ number.
@@ -189,8 +191,8 @@ impl Agenda {
         self.waiting.choose(&self.steering, floor)
     }
 
-    /// Does nothing, and says what holds of the agenda at any time: the numbers of what is pending rise, and an
-    /// activation is pending exactly where its status says so.
+    /// Does nothing; its contract states the invariant: the numbers of pending activations ascend, and an activation is
+    /// pending exactly if its status says so.
     pub fn fits(&self)
         ensures { Fits self.now }
     {

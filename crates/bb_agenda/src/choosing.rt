@@ -1,4 +1,4 @@
-//! The best activation of the first of each source. waiting.rt chooses by it.
+//! The best activation among the first of each source. waiting.rt calls it.
 
 ghost use Rattle.std.specs.Prelude.{◌≡◌, ◌<◌, ◌&&◌, ◌||◌, ℕ, true, false, nat_lt, int_lt, IfSome, IfNone};
 ghost use Rattle.std.specs.Ordering.{int_eq};
@@ -6,8 +6,8 @@ ghost use Rattle.bb_agenda.specs.declared.rank.Rank.{Rank as Ranked};
 ghost use Rattle.bb_agenda.specs.proving.Ranks.{is_ranked};
 ghost use Rattle.bb_agenda.specs.proving.Best.{rate_by, precedes, StandsFor, IsFirst, better};
 
+use crate::focusing::Steering;
 use crate::rank::Rank;
-use bb_agenda_foci::Steering;
 use std::collections::BTreeSet;
 
 /// A pending activation with its rating.
@@ -18,7 +18,7 @@ pub(crate) struct Candidate {
 }
 
 impl Candidate {
-    // Whether the candidate is rated higher than another one, or the same under a lower number.
+    // Whether the candidate is rated higher than another one, or the same with a lower number.
     fn is_before(&self, other: &Candidate) -> bool
         ensures { result ≡ precedes self.now.rating self.now.number other.now.rating other.now.number }
     {
@@ -26,7 +26,7 @@ impl Candidate {
     }
 }
 
-// The better of the best so far, if there is one, and of another.
+// The better of the best so far, if any, and another candidate.
 fn better(best: Option<Candidate>, next: Candidate) -> Candidate
     ensures { result ≡ better best next }
 {
@@ -36,7 +36,7 @@ fn better(best: Option<Candidate>, next: Candidate) -> Candidate
     }
 }
 
-/// The best of all that are pending: of each source the first is compared.
+/// Returns the best pending activation; compares only the first of each source.
 pub(crate) fn best_of(orders: &[BTreeSet<Rank>], steering: &Steering) -> Option<Candidate>
     ensures some { IfSome result (λ b. StandsFor (rate_by steering.now) orders.now b) }
     ensures all { (s : ℕ) (r : Ranked) → is_ranked orders.now s r ≡ true →

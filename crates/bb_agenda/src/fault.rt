@@ -6,10 +6,10 @@ ghost use Rattle.bb_agenda.specs.declared.fault.AddFault.TheVariants.{Memory as 
 use std::alloc::{AllocError, AllocFailed};
 use thiserror::Error;
 
-/// Why an activation could not be added. What was given and what is pending are as before.
+/// Why an activation could not be added. The activations given and pending are as before.
 #[derive(Clone, Copy, Debug, PartialEq, Eq, Error)]
 pub enum AddFault {
-    /// As many activations are pending as can be, or all numbers are used.
+    /// The maximum number of activations are pending, or all numbers are used.
     #[error("the agenda is full")]
     Full,
     /// Memory ran out.

@@ -1,10 +1,11 @@
-//! The agenda of a blackboard: which activations are pending, what became of each, and which of them a cycle executes.
+//! The agenda of a blackboard: which activations are pending, what became of the others, how foci rate them, and which
+//! one a cycle executes.
 //!
-//! - In: activations, foci, and what events do to those that are pending.
-//! - Out: `Agenda`, which gives numbers and ratings and answers the activation to execute next.
-//! - Callers rely on: the one that is chosen is the best and of equals the first (`chosen_is_best`), and what is over
-//!   stays over.
-//! - Family: bb_agenda_foci has the ratings.
+//! - In: activations, foci, and what events do to pending activations.
+//! - Out: `Agenda`, which numbers and rates activations and returns the next one to execute. The part `focusing` has
+//!   the ratings: which activations a focus matches, and what its weight adds.
+//! - Callers rely on: the chosen activation is the best, and of equals the first (`chosen_is_best`). An activation that
+//!   was executed or obviated is never pending again (`what_is_over_stays_over`).
 //! - Cases: `foci`, `floors`; tests in bb_rules_tests.
 #![tactic(auto)]
 
@@ -12,6 +13,7 @@ mod agenda;
 mod choice;
 mod choosing;
 mod fault;
+pub mod focusing;
 mod history;
 mod lists;
 mod number_set;
@@ -22,8 +24,8 @@ mod status;
 mod waiting;
 
 pub use agenda::{Agenda, NUMBER_LIMIT, PENDING_LIMIT};
-pub use bb_agenda_foci::{Activation, Focus, RatedSource};
 pub use choice::chosen_is_best;
 pub use fault::AddFault;
+pub use focusing::{Activation, Focus, RatedSource};
 pub use history::what_is_over_stays_over;
 pub use status::Status;

@@ -1,4 +1,4 @@
-//! The numbers of what is pending, in a list for each source and in one for each unit. waiting.rt keeps them.
+//! The numbers of pending activations: a list for each source, and a list for each unit. waiting.rt keeps them.
 
 ghost use Rattle.std.specs.Prelude.{◌≡◌, ℕ, [], OnOk, OnErr, IsSome, if◌then◌else◌, ◌==◌};
 ghost use Rattle.std.specs.Ordering.{nat_cmp};
@@ -6,19 +6,19 @@ ghost use Rattle.std.specs.BTreeMap.{get};
 ghost use Rattle.bb_agenda.specs.proving.Lists.{Rising, listed, one_more, one_less, without_last};
 ghost use Rattle.bb_agenda.specs.proving.Lists.{HasMore, HasLess, HasNoEmpty, AreSame, Rise};
 
+use crate::focusing::Activation;
 use crate::row::Row;
-use bb_agenda_foci::Activation;
 use bb_basis::Memory;
 use bb_schema::UnitId;
 use std::alloc::{AllocError, Global};
 use std::collections::BTreeMap;
 
-/// The numbers of activations, which rise in each list.
+/// The numbers of activations, ascending in every list.
 #[derive(Drop)]
 pub(crate) struct Lists {
-    // Those of each source that ever had one.
+    // For each source that ever had one.
     pub(crate) by_source: BTreeMap<u64, Row>,
-    // Those of each unit that has one.
+    // For each unit that has one.
     pub(crate) by_unit: BTreeMap<u64, Row>,
 }
 
@@ -32,7 +32,7 @@ fn list_of(lists: &BTreeMap<u64, Row>, key: u64) -> &[u64]
     }
 }
 
-// Gives a key one more number, the last. An error changes nothing.
+// Appends a number to the list of a key. An error changes nothing.
 fn add_to(
     alloc: Global,
     lists: &mut BTreeMap<u64, Row>,
@@ -51,7 +51,7 @@ fn add_to(
     Ok(())
 }
 
-// Appends a number to the list of a key that has one.
+// Appends a number to the list of a key that has a list. An error changes nothing.
 fn push_at(lists: &mut BTreeMap<u64, Row>, key: u64, number: u64) -> Result<(), Memory>
     requires { IsSome (get nat_cmp lists.old key) }
     ensures ok { OnOk result ((k : ℕ) → listed lists.new k ≡ one_more lists.old key number k) }
@@ -66,7 +66,7 @@ fn push_at(lists: &mut BTreeMap<u64, Row>, key: u64, number: u64) -> Result<(), 
     }
 }
 
-// Takes the last number of a key away again.
+// Removes the last number of a key.
 fn take_back(lists: &mut BTreeMap<u64, Row>, key: u64)
     ensures { (k : ℕ) → listed lists.new k
         ≡ if key == k then without_last (listed lists.old k) else listed lists.old k }
@@ -77,7 +77,7 @@ fn take_back(lists: &mut BTreeMap<u64, Row>, key: u64)
     }
 }
 
-// Takes a number out of the list of a key, which rises.
+// Removes a number from the list of a key, which ascends.
 fn remove_from(lists: &mut BTreeMap<u64, Row>, key: u64, number: u64)
     requires { Rising (listed lists.old key) }
     ensures { (k : ℕ) → listed lists.new k ≡ one_less lists.old key number k }
@@ -88,7 +88,7 @@ fn remove_from(lists: &mut BTreeMap<u64, Row>, key: u64, number: u64)
     }
 }
 
-// Forgets the list of a key where it has no numbers.
+// Drops the list of a key if it is empty.
 fn drop_empty(lists: &mut BTreeMap<u64, Row>, key: u64)
     ensures same { (k : ℕ) → listed lists.new k ≡ listed lists.old k }
     ensures bare { HasNoEmpty lists.new key }
@@ -99,7 +99,7 @@ fn drop_empty(lists: &mut BTreeMap<u64, Row>, key: u64)
 }
 
 impl Lists {
-    /// No numbers. It allocates nothing.
+    /// Creates lists without numbers. Allocates nothing.
     pub(crate) fn new(alloc: Global) -> Lists
         ensures sources { result.by_source.entries ≡ [] }
         ensures units { result.by_unit.entries ≡ [] }
@@ -110,14 +110,14 @@ impl Lists {
         }
     }
 
-    /// The numbers of a source.
+    /// Returns the numbers of a source.
     pub(crate) fn of_source(&self, source: u16) -> &[u64]
         ensures { result.now ≡ listed self.now.by_source source }
     {
         list_of(&self.by_source, u64::from(source))
     }
 
-    /// The numbers of a unit.
+    /// Returns the numbers of a unit.
     pub(crate) fn of_unit(&self, unit: UnitId) -> &[u64]
         ensures { result.now ≡ listed self.now.by_unit unit }
     {
@@ -138,7 +138,7 @@ impl Lists {
         Ok(())
     }
 
-    /// Takes the number of an activation out of the lists of its source and its unit.
+    /// Removes the number of an activation from the lists of its source and its unit.
     pub(crate) fn remove(&mut self, activation: &Activation)
         requires { Rise self.old activation.now }
         ensures { HasLess self.old activation.now self.new }

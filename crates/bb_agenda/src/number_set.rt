@@ -1,4 +1,4 @@
-//! A set of numbers that has a bit for each. The agenda keeps in it which activations were obviated.
+//! A set of numbers, one bit each. The agenda keeps the numbers of obviated activations in it.
 
 ghost use Rattle.std.specs.Prelude.{◌≡◌, ◌==◌, ◌<◌, ℕ, [], true, if◌then◌else◌, OnOk, OnErr};
 ghost use Rattle.bb_agenda.specs.proving.Numbers.{has_bit, is_in};
@@ -8,7 +8,7 @@ use std::alloc::Global;
 use std::collections::BTreeMap;
 use std::marker::Model;
 
-/// Numbers, each a bit of a word. Contracts see the words, each under the 64th part of its numbers.
+/// A set of numbers, each a bit of a word. Contracts see the words, each under its numbers divided by 64.
 #[derive(Drop)]
 pub(crate) struct NumberSet {
     words: BTreeMap<u64, u64>,
@@ -39,7 +39,7 @@ fn with_bit(word: u64, bit: u32) -> u64
 }
 
 impl NumberSet {
-    /// No numbers. It allocates nothing.
+    /// Creates an empty set. Allocates nothing.
     pub(crate) fn new(alloc: Global) -> NumberSet
         ensures { result ≡ [] }
     {
@@ -48,7 +48,7 @@ impl NumberSet {
         }
     }
 
-    /// Whether a number is in the set.
+    /// Returns whether a number is in the set.
     pub(crate) fn contains(&self, number: u64) -> bool
         ensures { result ≡ is_in self.now number }
     {

@@ -9,7 +9,7 @@ use bb_basis::Memory;
 use std::alloc::Global;
 use std::collections::BTreeSet;
 
-// Makes orders up to that of a source, each empty. An error changes no order.
+// Adds empty orders up to the index of a source. An error changes no order.
 fn reach(alloc: Global, orders: &mut Vec<BTreeSet<Rank>>, source: u16) -> Result<(), Memory>
     ensures ok { OnOk result (source < length orders.new.items) }
     ensures same { (s : ℕ) (r : Ranked) → is_ranked orders.new.items s r ≡ is_ranked orders.old.items s r }
@@ -20,7 +20,7 @@ fn reach(alloc: Global, orders: &mut Vec<BTreeSet<Rank>>, source: u16) -> Result
     Ok(())
 }
 
-/// Puts a rank into the order of a source. An error changes no order.
+/// Adds a rank to the order of a source. An error changes no order.
 pub(crate) fn rank_in(
     alloc: Global,
     orders: &mut Vec<BTreeSet<Rank>>,
@@ -37,7 +37,7 @@ pub(crate) fn rank_in(
     Ok(())
 }
 
-/// Takes a rank out of the order of a source.
+/// Removes a rank from the order of a source.
 pub(crate) fn rank_out(orders: &mut Vec<BTreeSet<Rank>>, source: u16, rank: Rank)
     ensures { (s : ℕ) (r : Ranked) →
         is_ranked orders.new.items s r ≡ ranked_less orders.old.items source rank s r }

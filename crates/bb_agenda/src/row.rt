@@ -1,4 +1,4 @@
-//! Numbers that rise, lent as one slice. waiting.rt and lists.rt list what is pending in it.
+//! Ascending numbers, lent as one slice. waiting.rt and lists.rt list pending activations in it.
 
 ghost use Rattle.std.specs.Prelude.{◌≡◌, [], ◌∷◌, ◌++◌, OnOk, OnErr, IfSome, IfNone, false};
 ghost use Rattle.std.specs.Prelude.{◌≤◌, length, drop};
@@ -8,11 +8,11 @@ use bb_basis::Memory;
 use std::alloc::Global;
 use std::marker::Model;
 
-/// Numbers that rise. The first is removed without a walk; one in the middle is removed by moving those after it, all
-/// at once.
+/// Ascending numbers. Removing the first moves no others until more than half are removed; removing one in the middle
+/// moves the later ones, all at once.
 #[derive(Drop)]
 pub(crate) struct Row {
-    // The numbers, after those that were removed from the front.
+    // The numbers, after `start` that were removed from the front.
     items: Vec<u64>,
     start: usize,
 }
@@ -27,7 +27,7 @@ impl Model for Row {
     ghost invariant = { λ r. r.start ≤ length r.items.items };
 }
 
-// The place of a number in a list that rises.
+// The place of a number in an ascending list.
 fn place_of(numbers: &[u64], number: u64) -> Option<usize>
     requires { Rising numbers.now }
     ensures found { IfSome result (λ place. IsAt numbers.now place number) }
@@ -36,7 +36,7 @@ fn place_of(numbers: &[u64], number: u64) -> Option<usize>
     numbers.binary_search(&number).ok()
 }
 
-// Drops what was removed from the front, once it is more than half.
+// Drops the numbers removed from the front, once they are more than half.
 fn shed(items: &mut Vec<u64>, start: usize) -> usize
     requires { start ≤ length items.old.items }
     ensures within { result ≤ length items.new.items }
@@ -52,7 +52,7 @@ fn shed(items: &mut Vec<u64>, start: usize) -> usize
 }
 
 impl Row {
-    /// No numbers. It allocates nothing.
+    /// Creates an empty row. Allocates nothing.
     pub(crate) fn new(alloc: Global) -> Row
         ensures { result ≡ [] }
     {
@@ -62,7 +62,7 @@ impl Row {
         }
     }
 
-    /// The numbers.
+    /// Returns the numbers.
     pub(crate) fn as_slice(&self) -> &[u64]
         ensures { result.now ≡ self.now }
     {
@@ -78,7 +78,7 @@ impl Row {
         Ok(())
     }
 
-    /// Takes the last number away.
+    /// Removes the last number.
     pub(crate) fn pop(&mut self)
         ensures { self.new ≡ without_last self.old }
     {
@@ -87,7 +87,7 @@ impl Row {
         }
     }
 
-    /// Takes a number away.
+    /// Removes a number.
     pub(crate) fn remove(&mut self, number: u64)
         requires { Rising self.old }
         ensures { self.new ≡ without number self.old }

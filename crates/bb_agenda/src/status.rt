@@ -3,10 +3,10 @@
 /// What became of an activation that was given.
 #[derive(Clone, Copy, Debug, PartialEq, Eq)]
 pub enum Status {
-    /// The activation waits for a cycle that chooses it.
+    /// No cycle has chosen the activation yet.
     Pending,
     /// A cycle has executed the activation.
     Executed,
-    /// The activation was taken off the agenda before a cycle chose it.
+    /// The activation was obviated before a cycle chose it.
     Obviated,
 }

@@ -1,5 +1,5 @@
-//! What is pending on an agenda, found by its number, its source or its unit, and in the order in which those of a
-//! source are executed, without a walk over all of it. agenda.rt keeps it.
+//! The pending activations of an agenda, found by number, source or unit, and in the order in which those of a source
+//! are executed, without scanning them all. agenda.rt keeps them.
 
 ghost use Rattle.std.specs.Prelude.{◌≡◌, ◌<◌, [], ◌∷◌, ◌++◌, map, filter, find, length, is_some, OnOk, OnErr};
 ghost use Rattle.std.specs.Prelude.{IfSome, option_map};
@@ -11,16 +11,16 @@ ghost use Rattle.bb_agenda.specs.Agenda.{number_of, has_number, is_of, is_on};
 ghost use Rattle.bb_agenda.specs.Changes.{other_than, rebased};
 ghost use Rattle.bb_agenda.specs.Chosen.{chosen};
 ghost use Rattle.bb_agenda.specs.Fits.{RisesBy};
-ghost use Rattle.bb_agenda_foci.specs.Rating.{rating};
+ghost use Rattle.bb_agenda.specs.focusing.Rating.{rating};
 
 mod filing;
 
 use crate::choosing::best_of;
+use crate::focusing::{Activation, Steering};
 use crate::lists::Lists;
 use crate::order::rank_out;
 use crate::rank::Rank;
 use crate::row::Row;
-use bb_agenda_foci::{Activation, Steering};
 use bb_basis::Memory;
 use bb_schema::UnitId;
 use filing::{rebase, rerank, store};
@@ -28,7 +28,7 @@ use std::alloc::Global;
 use std::collections::{BTreeMap, BTreeSet};
 use std::marker::Model;
 
-/// Activations whose numbers rise. Contracts see them as their list.
+/// Activations with ascending numbers. Contracts see them as a list.
 pub(crate) struct Waiting {
     alloc: Global,
     activations: BTreeMap<u64, Activation>,
@@ -40,7 +40,7 @@ pub(crate) struct Waiting {
     orders: Vec<BTreeSet<Rank>>,
 }
 
-// By hand, so that a proof meets one call where it is dropped, and not each of its parts.
+// By hand: proofs then meet one call per drop, not one per part.
 impl Drop for Waiting {
     fn drop(self) {
         let Waiting {
@@ -56,7 +56,7 @@ impl Drop for Waiting {
 impl Model for Waiting {
     ghost use Rattle.std.specs.Prelude.{List};
     ghost use Rattle.std.specs.Map.{values_of};
-    ghost use Rattle.bb_agenda_foci.specs.declared.activation.Activation.{Activation as Given};
+    ghost use Rattle.bb_agenda.specs.declared.focusing.activation.Activation.{Activation as Given};
 
     ghost Value = { List Given };
 
@@ -68,7 +68,7 @@ impl Model for Waiting {
 }
 
 impl Waiting {
-    /// No activations. It allocates nothing.
+    /// Creates an empty list. Allocates nothing.
     pub(crate) fn new(alloc: Global) -> Waiting
         ensures { result ≡ [] }
     {
@@ -81,14 +81,14 @@ impl Waiting {
         }
     }
 
-    /// The number of activations.
+    /// Returns the number of activations.
     pub(crate) fn len(&self) -> usize
         ensures { result ≡ length self.now }
     {
         self.numbers.as_slice().len()
     }
 
-    /// The numbers of the activations.
+    /// Returns the numbers of the activations.
     pub(crate) fn numbers(&self) -> &[u64]
         ensures value { result.now ≡ map number_of self.now }
         ensures rising { RisesBy number_of self.now }
@@ -96,7 +96,7 @@ impl Waiting {
         self.numbers.as_slice()
     }
 
-    /// The numbers of the activations of a source.
+    /// Returns the numbers of the activations of a source.
     pub(crate) fn of_source(&self, source: u16) -> &[u64]
         ensures value { result.now ≡ map number_of (filter (is_of source) self.now) }
         ensures rising { RisesBy number_of self.now }
@@ -104,7 +104,7 @@ impl Waiting {
         self.lists.of_source(source)
     }
 
-    /// The numbers of the activations for a unit.
+    /// Returns the numbers of the activations for a unit.
     pub(crate) fn on_unit(&self, unit: UnitId) -> &[u64]
         ensures value { result.now ≡ map number_of (filter (is_on unit) self.now) }
         ensures rising { RisesBy number_of self.now }
@@ -112,21 +112,22 @@ impl Waiting {
         self.lists.of_unit(unit)
     }
 
-    /// The activation of a number.
+    /// Returns the activation with a number.
     pub(crate) fn get(&self, number: u64) -> Option<Activation>
         ensures { result ≡ find (has_number number) self.now }
     {
         self.activations.get(&number).copied()
     }
 
-    /// Whether an activation has this number.
+    /// Returns whether an activation has this number.
     pub(crate) fn has(&self, number: u64) -> bool
         ensures { result ≡ is_some (find (has_number number) self.now) }
     {
         self.get(number).is_some()
     }
 
-    /// The number of the activation to execute, of those rated at least `floor`. The first of each source is compared.
+    /// Returns the number of the activation to execute, of those rated at least `floor`. Compares only the first of
+    /// each source.
     pub(crate) fn choose(&self, steering: &Steering, floor: i64) -> Option<u64>
         ensures number { let s = steering.now in let rate = rating s.setting.schema s.setting.sources s.foci in
             result ≡ option_map number_of (chosen rate floor self.now) }
@@ -140,7 +141,7 @@ impl Waiting {
         Some(best.number)
     }
 
-    /// Appends an activation, whose number is above all others. An error changes nothing.
+    /// Appends an activation whose number is above all others. An error changes nothing.
     pub(crate) fn push(&mut self, activation: Activation) -> Result<(), Memory>
         requires { AllByRecursion (λ a. a.number < activation.number) self.old }
         ensures ok { OnOk result (self.new ≡ self.old ++ activation ∷ []) }
@@ -162,7 +163,7 @@ impl Waiting {
         }
     }
 
-    /// Takes the activation of a number away.
+    /// Removes the activation with a number.
     pub(crate) fn remove(&mut self, number: u64)
         ensures { self.new ≡ filter (other_than number) self.old }
     {
@@ -173,7 +174,7 @@ impl Waiting {
         }
     }
 
-    /// Gives the activation of a number another base. An error changes nothing.
+    /// Gives the activation with a number another base. An error changes nothing.
     pub(crate) fn rerate(&mut self, number: u64, base: i64) -> Result<(), Memory>
         ensures ok { OnOk result (self.new ≡ map (rebased number base) self.old) }
         ensures err { OnErr result (self.new ≡ self.old) }

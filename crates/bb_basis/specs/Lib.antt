@@ -1,8 +1,8 @@
--- what a name is
+-- names
 pub mod Names
--- what a call that may fail gives: `>>=`, `try_map`, `try_fold`, `Gives`
+-- results of calls that may fail: `>>=`, `try_map`, `try_fold`, `Gives`
 pub mod Results
--- what is reached from a number step by step
+-- the numbers that are reached from a number step by step
 pub mod Closure
--- relations that only invariants and proofs speak of
+-- relations that only invariants and proofs use
 pub mod proving

@@ -1,4 +1,4 @@
--- What a name is.
+-- Names: which texts are names.
 use Rattle.std.specs.Prelude.{ℕ, Bool, false, ◌&&◌, ◌||◌, ◌==◌, nat_le, List, [], ◌∷◌, length}
 use Rattle.std.specs.List.{list_all}
 
@@ -16,6 +16,6 @@ abbrev pub starts_with_letter : List ℕ → Bool
 starts_with_letter [] = false
 starts_with_letter (b ∷ bs) = is_small_letter b
 
--- a letter from a to z, then letters, digits and `_`: at most 31 bytes in all
+-- a letter from a to z, then such letters, digits and `_`, at most 31 bytes in all
 unfoldable pub is_name : List ℕ → Bool
 is_name bs = starts_with_letter bs && list_all is_name_byte bs && nat_le (length bs) 31

@@ -1,3 +1,3 @@
--- Relations that only the invariants of models and the proofs speak of.
--- what holds of the parts of a table
+-- Relations that only the invariants of models and the proofs use.
+-- the invariant of tables
 pub mod Tables

@@ -1,4 +1,4 @@
-//! A set of numbers of things, in order. A schema keeps the classes of a space in one.
+//! An ordered set of 16-bit numbers. A schema keeps the classes of a space in one.
 
 ghost use Rattle.std.specs.Prelude.{◌≡◌, ◌==◌, [], ◌∷◌, ◌++◌, length, OnOk, OnErr, false};
 ghost use Rattle.std.specs.List.{list_any};
@@ -7,13 +7,12 @@ use indexmap::IndexSet;
 use std::alloc::{AllocError, Global};
 use std::marker::Model;
 
-/// Distinct numbers in the order in which they were added, each found without a scan. Contracts see them as their
-/// list.
+/// Distinct numbers in insertion order, each found without a scan. Contracts see a list of numbers.
 pub struct IdSet {
     set: IndexSet<u16>,
 }
 
-// By hand, so that a proof meets one call where it is dropped, and not each of its parts.
+// By hand, so that proofs see a drop as one call, not one per part.
 impl Drop for IdSet {
     fn drop(self) {
         let IdSet { set: _ } = self;
@@ -43,7 +42,7 @@ impl PartialEq for IdSet {
 }
 
 impl IdSet {
-    /// An empty set. It allocates nothing.
+    /// Returns an empty set. Allocates nothing.
     pub fn new(alloc: Global) -> IdSet
         ensures { result ≡ [] }
     {
@@ -52,28 +51,28 @@ impl IdSet {
         }
     }
 
-    /// The numbers, in the order in which they were added.
+    /// Returns the numbers, in insertion order.
     pub fn as_slice(&self) -> &[u16]
         ensures { result.now ≡ self.now }
     {
         self.set.as_slice()
     }
 
-    /// The number of numbers.
+    /// Returns the count of numbers.
     pub fn len(&self) -> usize
         ensures { result ≡ length self.now }
     {
         self.set.len()
     }
 
-    /// Whether a number is in the set.
+    /// Returns whether a number is in the set.
     pub fn contains(&self, id: u16) -> bool
         ensures { result ≡ list_any (λ d. d == id) self.now }
     {
         self.set.contains(&id)
     }
 
-    /// Appends a number that is not in the set. An error changes nothing.
+    /// Appends a number that is not yet in the set. On an error, nothing changes.
     pub fn push(&mut self, id: u16) -> Result<(), AllocError>
         requires { list_any (λ d. d == id) self.old ≡ false }
         ensures ok { OnOk result (self.new ≡ self.old ++ id ∷ []) }

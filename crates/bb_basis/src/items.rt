@@ -1,11 +1,11 @@
-//! A list as part of a larger value. Structs and enums whose values contracts compare keep their lists in it.
+//! A list inside a larger value. Structs and enums whose values contracts compare keep their lists in it.
 
 ghost use Rattle.std.specs.Prelude.{◌≡◌, [], ◌∷◌, ◌++◌, length, take, OnOk, OnErr};
 
 use std::alloc::{AllocError, Global};
 use std::marker::Model;
 
-/// Items in order. Contracts see them as their list, wherever they lie in memory.
+/// Items in order. Contracts see only their list, not where it is in memory.
 #[derive(Debug, Drop)]
 pub struct Items<T> {
     inner: Vec<T>,
@@ -52,7 +52,7 @@ impl<T: Clone + Drop> Clone for Items<T> {
 }
 
 impl<T: Drop> Items<T> {
-    /// An empty list. It allocates nothing.
+    /// Returns an empty list. Allocates nothing.
     pub fn new(alloc: Global) -> Items<T>
         ensures { result ≡ [] }
     {
@@ -61,21 +61,21 @@ impl<T: Drop> Items<T> {
         }
     }
 
-    /// The items.
+    /// Returns the items.
     pub fn as_slice(&self) -> &[T]
         ensures { result.now ≡ self.now }
     {
         self.inner.as_slice()
     }
 
-    /// The number of items.
+    /// Returns the number of items.
     pub fn len(&self) -> usize
         ensures { result ≡ length self.now }
     {
         self.inner.len()
     }
 
-    /// Appends an item. An error changes nothing.
+    /// Appends an item. On an error, nothing changes.
     pub fn push(&mut self, item: T) -> Result<(), AllocError>
         ensures ok { OnOk result (self.new ≡ self.old ++ item ∷ []) }
         ensures err { OnErr result (self.new ≡ self.old) }
@@ -84,7 +84,7 @@ impl<T: Drop> Items<T> {
         Ok(())
     }
 
-    /// Appends items, in their order. An error changes nothing.
+    /// Appends items, in their order. On an error, nothing changes.
     pub fn append(&mut self, items: Vec<T>) -> Result<(), AllocError>
         ensures ok { OnOk result (self.new ≡ self.old ++ items.items) }
         ensures err { OnErr result (self.new ≡ self.old) }
@@ -93,14 +93,14 @@ impl<T: Drop> Items<T> {
         self.inner.append(&mut items)
     }
 
-    /// Keeps the first `len` items, and drops the others.
+    /// Keeps the first `len` items and drops the others.
     pub fn truncate(&mut self, len: usize)
         ensures { self.new ≡ take len self.old }
     {
         self.inner.truncate(len);
     }
 
-    /// The items as a `Vec`.
+    /// Returns the items as a `Vec`.
     pub fn into_vec(self) -> Vec<T>
         ensures { result.items ≡ self }
     {

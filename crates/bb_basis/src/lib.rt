@@ -1,11 +1,11 @@
-//! The types that all crates share: texts, names and lists as parts of larger values, and, in `specs/` and `proofs/`,
-//! what a call that may fail gives and the lemmas of loops and lists.
+//! The types that all crates share: texts, names and lists as parts of larger values. `specs/` defines the results of
+//! fallible calls, and `proofs/` has the lemmas of loops and lists.
 //!
 //! - In: nothing. It is the lowest crate.
-//! - Out: `Text`, `Name`, `Names`, `Table`, `Items`, `IdSet`, `Memory` and `Whole`; in `specs/Results` `Gives`,
-//!   `try_map` and `try_fold`, in which most contracts above are written.
-//! - Callers rely on: a `Text`, an `Items` and an `IdSet` are seen by contracts as plain lists. All of `proofs/` is for
-//!   callers here.
+//! - Out: `Text`, `Names`, `Table`, `Items`, `IdSet`, `Memory`, `Whole` and `is_name`; in `specs/Results` `Gives`,
+//!   `try_map` and `try_fold`, in which most contracts of the crates above are written.
+//! - Callers rely on: contracts see a `Text`, an `Items` and an `IdSet` as plain lists. Callers may use all of
+//!   `proofs/`.
 //! - Tests: bb_board_parts_tests.
 #![tactic(auto)]
 

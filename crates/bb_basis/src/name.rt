@@ -1,10 +1,10 @@
-//! What a name is. The readers of documents, bundles and texts test each declared name by it.
+//! The test for names. The readers of documents, bundles and texts apply it to every declared name.
 
 ghost use Rattle.std.specs.Prelude.{◌≡◌};
 ghost use Rattle.std.specs.List.{list_all};
 ghost use Rattle.bb_basis.specs.Names.{is_name, is_name_byte, starts_with_letter};
 
-/// The greatest length of a name, in bytes.
+/// The maximum length of a name, in bytes.
 pub const NAME_LIMIT: usize = 31;
 
 fn is_name_byte(byte: u8) -> bool
@@ -28,7 +28,7 @@ fn are_name_bytes(bytes: &[u8]) -> bool
     bytes.iter().all(|byte| is_name_byte(*byte))
 }
 
-/// Whether a text is a name: a letter from a to z, then letters, digits and `_`, at most 31 bytes in all.
+/// Returns whether a text is a name: a letter from a to z, then such letters, digits and `_`, at most 31 bytes in all.
 #[tactic(auto, unfolding(crate::specs::Names::is_name))]
 pub fn is_name(text: &str) -> bool
     ensures { result ≡ is_name text.now }

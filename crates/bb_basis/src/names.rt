@@ -1,4 +1,4 @@
-//! Names, each found by its text. Readers that add names one after another and look them up keep them in it.
+//! Names, each found by its text. Readers that add names one by one and look them up keep them here.
 
 ghost use Rattle.std.specs.Prelude.{◌≡◌, [], ◌∷◌, ◌++◌, length, position, slice_get, option_map, IsTrue, OnErr, IfOk};
 ghost use Rattle.std.specs.Prelude.{not, if◌then◌else◌};
@@ -9,12 +9,12 @@ use indexmap::IndexSet;
 use std::alloc::{AllocError, Global};
 use std::marker::Model;
 
-/// Distinct names in the order in which they were added, each found by its text without a scan.
+/// Distinct names in insertion order, each found by its text without a scan.
 pub struct Names {
     set: IndexSet<String>,
 }
 
-// By hand, so that a proof meets one call where names are dropped, and not the parts of an index.
+// By hand, so that proofs see a drop as one call, not one per part of the index.
 impl Drop for Names {
     fn drop(self) {
         let Names { set: _ } = self;
@@ -30,7 +30,7 @@ impl Model for Names {
 }
 
 impl Names {
-    /// An empty list of names. It allocates nothing.
+    /// Returns an empty list of names. Allocates nothing.
     pub fn new(alloc: Global) -> Names
         ensures { result ≡ [] }
     {
@@ -39,28 +39,29 @@ impl Names {
         }
     }
 
-    /// The number of names.
+    /// Returns the number of names.
     pub fn len(&self) -> usize
         ensures { result ≡ length self.now }
     {
         self.set.len()
     }
 
-    /// The index of a name, if it is there.
+    /// Returns the index of a name, if the list has it.
     pub fn index_of(&self, name: &str) -> Option<usize>
         ensures { result ≡ position (bytes_eq name.now) self.now }
     {
         self.set.get_index_of(name)
     }
 
-    /// Whether a name is there.
+    /// Returns whether the list has a name.
     pub fn contains(&self, name: &str) -> bool
         ensures { result ≡ list_any (bytes_eq name.now) self.now }
     {
         self.set.contains(name)
     }
 
-    /// Appends a name unless it is there, and returns whether it was new. A name that is there keeps its index.
+    /// Appends a name unless the list has it, and returns whether it was new. A name that was present keeps its index.
+    /// On an error, nothing changes.
     pub fn insert(&mut self, alloc: Global, name: &str) -> Result<bool, AllocError>
         ensures fresh { IfOk result (λ fresh. fresh ≡ not (list_any (bytes_eq name.now) self.old)) }
         ensures added { IfOk result (λ fresh. self.new ≡ if fresh then self.old ++ name.now ∷ [] else self.old) }

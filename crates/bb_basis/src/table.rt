@@ -1,4 +1,4 @@
-//! A list of named items, each found by its name. A schema keeps its classes, label sets and spaces in one.
+//! A list of named items, each found by its name. A schema keeps its classes, label sets and spaces in tables.
 
 ghost use Rattle.std.specs.Prelude.{◌≡◌, ◌<◌, [], ◌∷◌, ◌++◌, false, length, map, position, slice_get, option_map, OnOk};
 ghost use Rattle.std.specs.Prelude.{OnErr};
@@ -11,7 +11,7 @@ use crate::text::Text;
 use std::alloc::{AllocError, Global};
 use std::marker::Model;
 
-/// The greatest number of items in a table.
+/// The maximum number of items in a table.
 pub const ITEM_LIMIT: usize = 65_536;
 
 /// A named item.
@@ -20,7 +20,7 @@ pub trait Named: Drop {
 
     ghost name_of: { Self → List ℕ };
 
-    /// The name.
+    /// Returns the name.
     fn name(&self) -> &str
         ensures { result.now ≡ name_of self.now };
 }
@@ -33,7 +33,7 @@ impl Named for Text {
     }
 }
 
-/// At most `ITEM_LIMIT` named items in the order in which they were added, each found by its name without a scan.
+/// At most `ITEM_LIMIT` named items in insertion order, each found by its name without a scan.
 #[derive(Drop)]
 pub struct Table<T: Named> {
     items: Vec<T>,
@@ -65,7 +65,7 @@ impl<T: Named + PartialEq> PartialEq for Table<T> {
 }
 
 impl<T: Named> Table<T> {
-    /// An empty table. It allocates nothing.
+    /// Returns an empty table. Allocates nothing.
     pub fn new(alloc: Global) -> Table<T>
         ensures { result ≡ [] }
     {
@@ -75,28 +75,28 @@ impl<T: Named> Table<T> {
         }
     }
 
-    /// The number of items.
+    /// Returns the number of items.
     pub fn len(&self) -> usize
         ensures { result ≡ length self.now }
     {
         self.items.len()
     }
 
-    /// The items.
+    /// Returns the items.
     pub fn as_slice(&self) -> &[T]
         ensures { result.now ≡ self.now }
     {
         self.items.as_slice()
     }
 
-    /// The item at an index, if there is one.
+    /// Returns the item at an index, if there is one.
     pub fn get(&self, index: usize) -> Option<&T>
         ensures { option_map (λ x. x.now) result ≡ slice_get self.now index }
     {
         self.items.get(index)
     }
 
-    /// The index of the first item of a name.
+    /// Returns the index of the first item with a name, if there is one.
     pub fn index_of(&self, name: &str) -> Option<u16>
         ensures { result ≡ position (bytes_eq name.now) (map T.name_of self.now) }
     {
@@ -104,14 +104,14 @@ impl<T: Named> Table<T> {
         Some(index as u16)
     }
 
-    /// Whether an item has the name.
+    /// Returns whether an item has the name.
     pub fn contains(&self, name: &str) -> bool
         ensures { result ≡ list_any (bytes_eq name.now) (map T.name_of self.now) }
     {
         self.names.contains(name)
     }
 
-    /// Appends an item whose name no other has. An error changes nothing.
+    /// Appends an item whose name no other item has. On an error, nothing changes.
     pub fn push(&mut self, alloc: Global, item: T) -> Result<(), AllocError>
         requires room { length self.old < ITEM_LIMIT }
         requires fresh { list_any (bytes_eq (T.name_of item)) (map T.name_of self.old) ≡ false }

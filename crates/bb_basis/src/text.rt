@@ -1,5 +1,5 @@
-//! A text as part of a larger value, which several owners share. Structs and enums whose values contracts compare keep
-//! their texts in it.
+//! A text inside a larger value, shared by several owners. Structs and enums whose values contracts compare keep their
+//! texts in it.
 
 ghost use Rattle.std.specs.Prelude.{◌≡◌, length, IfOk, IsTrue, ◌↔◌};
 ghost use Rattle.std.specs.String.{string_bytes};
@@ -8,8 +8,8 @@ use std::alloc::{AllocError, Global};
 use std::marker::Model;
 use std::rc::Rc;
 
-/// A text as part of a larger value. Its clones share it, so that what has a text may be copied however long the text
-/// is. Contracts see it as its bytes, wherever they lie in memory.
+/// A text inside a larger value. Clones share it, so cloning copies no bytes. Contracts see only its bytes, not where
+/// they are in memory.
 #[derive(Debug, Drop)]
 pub struct Text {
     inner: Rc<String>,
@@ -55,7 +55,7 @@ impl Clone for Text {
 }
 
 impl Text {
-    /// The text of a `String`, which it keeps as it is.
+    /// Makes a text of a `String`, which it keeps without copying.
     pub fn new(alloc: Global, inner: String) -> Result<Text, AllocError>
         ensures { IfOk result (λ text. text ≡ string_bytes inner) }
     {
@@ -64,28 +64,28 @@ impl Text {
         })
     }
 
-    /// A copy of a text.
+    /// Makes a text with a copy of the bytes of a `str`.
     pub fn from_str(alloc: Global, text: &str) -> Result<Text, AllocError>
         ensures { IfOk result (λ copy. copy ≡ text.now) }
     {
         Text::new(alloc, String::from_str(alloc, text)?)
     }
 
-    /// The text as a `str`.
+    /// Returns the text as a `str`.
     pub fn as_str(&self) -> &str
         ensures { result.now ≡ self.now }
     {
         self.inner.as_ref().as_str()
     }
 
-    /// The number of bytes.
+    /// Returns the number of bytes.
     pub fn len(&self) -> usize
         ensures { result ≡ length self.now }
     {
         self.as_str().len()
     }
 
-    /// Whether there are no bytes.
+    /// Returns whether the text has no bytes.
     pub fn is_empty(&self) -> bool
         ensures { IsTrue result ↔ (length self.now ≡ 0) }
     {

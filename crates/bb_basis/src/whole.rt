@@ -1,16 +1,16 @@
-//! A value that is dropped by one call. Functions of any crate that hold an enum, or several values of many parts, over
-//! many ways out hold them in one.
+//! A value that is dropped by one call. A function with many exits keeps an enum, or several values of many parts, in
+//! one.
 
 ghost use Rattle.std.specs.Prelude.{◌≡◌};
 
-/// A value that is dropped by one call: at each way out of a function the check goes by that call, and not by each part
-/// of the value. It is there for the time that a proof takes, and changes nothing else.
+/// A value that is dropped by one call. At each exit of a function, the proof checks that call instead of the drop of
+/// each part of the value. This only saves time in proofs.
 pub struct Whole<T: Drop> {
     /// The value.
     pub value: T,
 }
 
-// By hand, so that a proof meets one call where it is dropped, and not each of its parts.
+// By hand, so that proofs see a drop as one call, not one per part.
 impl<T: Drop> Drop for Whole<T> {
     fn drop(self) {
         let Whole { value: _ } = self;
@@ -18,14 +18,14 @@ impl<T: Drop> Drop for Whole<T> {
 }
 
 impl<T: Drop> Whole<T> {
-    /// Holds a value.
+    /// Wraps a value.
     pub fn of(value: T) -> Whole<T>
         ensures { result.value ≡ value }
     {
         Whole { value }
     }
 
-    /// The value that is held.
+    /// Returns the value.
     pub fn out(self) -> T
         ensures { result ≡ self.value }
     {

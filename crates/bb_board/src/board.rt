@@ -1,4 +1,4 @@
-//! The blackboard. The calls here read it, those in `changes` change it. The machine changes it (bb_machine_step), and
+//! The blackboard. The calls here read it, those in `changes` change it. The machine changes it (bb_machine), and
 //! a run takes its notes (bb_run).
 
 ghost use Rattle.std.specs.Prelude.{◌≡◌, ◌≤◌, ◌↔◌, Ok, Some, length, map, slice_get, IfOk, IsTrue, IsSome};

@@ -16,11 +16,11 @@ use Rattle.bb_schema_classes.specs.declared.value.Value.{Value}
 use Rattle.bb_schema_classes.specs.declared.value.Value.TheVariants as values
 use Rattle.bb_schema_classes.specs.Kinds.{kind_of_value}
 use Rattle.bb_schema_classes.specs.Values.{label_counts, is_label, value_fits}
-use Rattle.bb_schema_slots.specs.declared.slot.Slot.{Slot}
-use Rattle.bb_schema_slots.specs.declared.slot.Content.{Content}
-use Rattle.bb_schema_slots.specs.declared.slot.Content.TheVariants.{Default, Link}
-use Rattle.bb_schema_slots.specs.Kinds.{kind_of}
-use Rattle.bb_schema_slots.specs.Slots.{default_in}
+use Rattle.bb_schema.specs.declared.slot.Slot.{Slot}
+use Rattle.bb_schema.specs.declared.slot.Content.{Content}
+use Rattle.bb_schema.specs.declared.slot.Content.TheVariants.{Default, Link}
+use Rattle.bb_schema.specs.Kinds.{kind_of}
+use Rattle.bb_schema.specs.Slots.{default_in}
 use Rattle.bb_schema.specs.Schema.{Schema, default_of, label_named, name_of_label}
 use Rattle.bb_schema.specs.Fits as schemas
 use Rattle.bb_board.specs.Load.{value_in, value_at}

@@ -3,7 +3,7 @@ use Rattle.std.proofs.Common.{◌≡◌, ℕ, zero, suc, ◌+◌, ◌<◌, ◌�
 use Rattle.std.specs.Prelude.{slice_get}
 use Rattle.std.specs.Option.{option_map_or}
 use Rattle.std.proofs.lemmas.List.{append-nil}
-use Rattle.bb_schema_slots.specs.declared.slot.Slot.{Slot}
+use Rattle.bb_schema.specs.declared.slot.Slot.{Slot}
 use Rattle.bb_schema.specs.Couples.{comes_first, firsts}
 
 first_turn : (k i : ℕ) (slots : List Slot) (b : Bool) → option_map_or (comes_first k) (slice_get slots i) false ≡ b → i < length slots → firsts k (drop i slots) ≡ cond b (k ∷ firsts (suc k) (drop (suc i) slots)) (firsts (suc k) (drop (suc i) slots))

@@ -18,7 +18,7 @@ use Rattle.bb_schema_classes.specs.declared.value.Value.{Value}
 use Rattle.bb_schema_classes.specs.declared.class.Class.{Class}
 use Rattle.bb_schema_classes.specs.Fits.{IsClass}
 use Rattle.bb_schema_classes.specs.Inheritance.{is_among}
-use Rattle.bb_schema_slots.specs.declared.slot.Slot.{Slot}
+use Rattle.bb_schema.specs.declared.slot.Slot.{Slot}
 use Rattle.bb_schema.specs.Schema.{slots_of, slot_named, name_of_slot, default_of}
 use Rattle.bb_schema.specs.Fits as schemas
 use Rattle.bb_board.specs.Load.{is_ordinary_in, are_slots, given_for, given_at}

@@ -13,7 +13,7 @@ use Rattle.bb_basis.proofs.ListLemmas.{map-last}
 use Rattle.bb_schema_form.specs.UnitsDocument.{FirstLinkDeclaration}
 use Rattle.bb_schema_form.specs.declared.place.ListKey.TheVariants as lists
 use Rattle.bb_schema_classes.specs.declared.kind.Link.{Link}
-use Rattle.bb_schema_slots.specs.Slots.{link_of}
+use Rattle.bb_schema.specs.Slots.{link_of}
 use Rattle.bb_schema.specs.Schema.{slot_named, descends}
 use Rattle.bb_schema.specs.Couples.{couples}
 use Rattle.bb_schema.specs.Fits as schemas

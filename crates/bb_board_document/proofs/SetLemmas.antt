@@ -10,8 +10,8 @@ use Rattle.bb_schema_classes.specs.declared.value.Value.{Value}
 use Rattle.bb_schema_classes.specs.Inheritance.{is_among}
 use Rattle.bb_schema_classes.specs.Kinds.{kind_of_value}
 use Rattle.bb_schema_classes.specs.Values.{value_fits}
-use Rattle.bb_schema_slots.specs.declared.slot.Slot.{Slot}
-use Rattle.bb_schema_slots.specs.Slots.{default_in}
+use Rattle.bb_schema.specs.declared.slot.Slot.{Slot}
+use Rattle.bb_schema.specs.Slots.{default_in}
 use Rattle.bb_schema.specs.Schema.{Schema, default_of, slots_of}
 use Rattle.bb_units.specs.declared.unit.Unit.{Unit as OneUnit}
 use Rattle.bb_units.specs.Values.{value_at, with_value as with_slot_value}

@@ -1,8 +1,8 @@
--- the numbers that units have once their document is loaded
+-- the numbers that units have after their document is loaded
 pub mod Renumbered
 -- a value as JSON
 pub mod Values
--- the document of first units of what stands on a blackboard
+-- the document of initial units for the contents of a blackboard
 pub mod Document
--- what a text makes of a blackboard
+-- the blackboard that loads a text
 pub mod Loading

@@ -1,4 +1,4 @@
--- A value of a slot as JSON, and whether it is the default.
+-- The value of a slot as JSON, and whether it is the default.
 use Rattle.std.specs.Prelude.{ℕ, Bool, false, ◌==◌, ◌&&◌, List, [], ◌∷◌, Option, Some, None, unwrap_or, if◌then◌else◌}
 use Rattle.std.specs.Bool.{beq}
 use Rattle.std.specs.Ordering.{int_eq}
@@ -10,7 +10,7 @@ use Rattle.bb_schema_classes.specs.declared.value.Value.{Value}
 use Rattle.bb_schema_classes.specs.declared.value.Value.TheVariants.{Int, Text, Bool as Truth, Label, Interval}
 use Rattle.bb_schema.specs.Schema.{Schema, name_of_label}
 
--- whether two values are the same
+-- whether two values are equal
 abbrev pub same_value : Value → Value → Bool
 same_value (Int y) (Int z) = int_eq y z
 same_value (Text s) (Text t) = bytes_eq s t
@@ -23,15 +23,15 @@ same_value _ _ = false
 abbrev pub unless_same : (default value : Value) → Option Value
 unless_same default value = if same_value value default then None else Some value
 
--- a list of values in JSON
+-- a list of values as JSON
 abbrev pub list_data : List Data → Data
 list_data ds = array (items_of ds)
 
--- a name in JSON, an empty one where there is none
+-- a name as JSON, an empty one if there is none
 abbrev pub name_data : Option (List ℕ) → Data
 name_data name = string (unwrap_or name [])
 
--- a value as JSON: a label by its name, an interval by its two ends
+-- a value as JSON: a label as its name, an interval as an array of its two ends
 abbrev pub value_data : Schema → Value → Data
 value_data s (Int z) = number (of_integer z)
 value_data s (Text t) = string t

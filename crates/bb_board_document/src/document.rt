@@ -1,4 +1,4 @@
-//! The document of first units of a blackboard. Hosts call it.
+//! The document of initial units for a blackboard. bb_shell and bb_c_run call it.
 
 ghost use Rattle.std.specs.Prelude.{◌≡◌, IfOk, Some, map, string_bytes};
 ghost use Rattle.serde_json.specs.Read.{read};
@@ -20,7 +20,7 @@ use bb_schema::{ClassId, UnitId};
 use serde_json::{Value as Json, json};
 use std::alloc::Global;
 
-// The class of a unit, 0 where it is not live.
+// The class of a unit, 0 if the unit is not live.
 fn class_at(view: &View<'_>, unit: UnitId) -> ClassId
     ensures { result ≡ class_at view.now.world unit }
 {
@@ -41,7 +41,7 @@ fn unit_json(alloc: Global, listing: &Listing<'_>, unit: UnitId) -> Result<Json,
     json!(in alloc; {"class": class_name, "name": name, "slots": slots})
 }
 
-// The entries of all live units, rising.
+// The entries of all live units, ascending.
 fn units(alloc: Global, listing: &Listing<'_>) -> Result<Json, Memory>
     ensures { IfOk result (λ json. view json ≡
         list_data (map (unit_data listing.now) (live_units listing.now.world.units))) }
@@ -63,11 +63,11 @@ fn document(alloc: Global, listing: &Listing<'_>) -> Result<Json, Memory>
     json!(in alloc; {"links": links, "spaces": spaces, "units": units})
 }
 
-/// What stands on a blackboard, as a document of first units (docs/users/formats/inputs.md): an entry for each live unit
-/// with the values that aren't defaults, for each link in the order in which they were made, and for each space that a
-/// unit is in. A fresh blackboard of the same schema that loads it has the same units, links and members. They are
-/// numbered from 1 in their order, and so keep their numbers where no number below the next one is missing. Notes are
-/// not written. It fails only for want of memory.
+/// Writes the contents of a blackboard as a document of initial units (docs/users/formats/inputs.md): an entry for each
+/// live unit, with its values that aren't defaults; for each link, association by association, in the order of linking;
+/// and for each space that a unit is in. A fresh blackboard of the same schema that loads the document has the same
+/// units, links and members. Its units are numbered from 1 in the same order, so they keep their numbers if no number
+/// below the next one is missing. Notes are not written. Fails only if memory runs out.
 pub fn units_document(alloc: Global, view: &View<'_>) -> Result<String, Memory>
     ensures text { IfOk result (λ text. string_bytes text ≡ units_text view.now) }
     ensures json { IfOk result (λ text. read (string_bytes text) ≡ Some (units_data view.now)) }

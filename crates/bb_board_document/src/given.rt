@@ -1,4 +1,4 @@
-//! What a unit gives for its slots: each value that isn't the default. `document.rt` puts it into the unit's entry.
+//! The values that a unit's entry gives for slots: those that aren't defaults. `document.rt` puts them into the entry.
 
 ghost use Rattle.std.specs.Prelude.{◌≡◌, IfOk, OnOk, option_map};
 ghost use Rattle.std.specs.List.{fold};
@@ -14,7 +14,7 @@ use bb_schema::{ClassId, Schema, SlotId, UnitId, Value};
 use serde_json::{Map, Value as Json, put};
 use std::alloc::Global;
 
-// The value of a slot of a unit, if it is an ordinary slot of it whose value isn't the default.
+// The value of a unit's slot, if the unit has this ordinary slot and the value isn't the default.
 fn changed_value<'a>(seen: &'a View<'_>, unit: UnitId, slot: SlotId) -> Option<&'a Value>
     ensures { option_map (λ v. v.now) result ≡ changed_value seen.now unit slot }
 {
@@ -29,7 +29,7 @@ fn changed_value<'a>(seen: &'a View<'_>, unit: UnitId, slot: SlotId) -> Option<&
     Some(value)
 }
 
-// Puts what a unit gives for a slot, if anything, under the slot's name.
+// Adds a unit's value for a slot under the slot's name, if it isn't the default.
 fn add_given(
     alloc: Global,
     members: &mut Map<String, Json>,
@@ -58,7 +58,7 @@ fn slots_of(schema: &Schema, class: ClassId) -> &[SlotId]
     schema.slots(class)
 }
 
-/// What a unit of a class gives for its slots: the values that aren't defaults, each under the name of its slot.
+/// Returns the values of a unit of a class that aren't defaults, each under the name of its slot.
 pub(crate) fn given(
     alloc: Global,
     seen: &View<'_>,

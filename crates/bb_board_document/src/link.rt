@@ -16,7 +16,7 @@ use bb_schema::{Schema, SlotId, SpaceId, UnitId};
 use serde_json::{Value as Json, json};
 use std::alloc::Global;
 
-// Whether a slot is a link slot that comes before its inverse, so that it is at side A of their couple.
+// Whether a slot is a link slot with a lower number than its inverse, so that it is side A of their couple.
 fn comes_first(schema: &Schema, slot: SlotId) -> bool
     ensures { result ≡ option_map_or (comes_first slot) (slice_get schema.now.slots slot) false }
 {
@@ -40,7 +40,7 @@ fn first_slots(alloc: Global, schema: &Schema) -> Result<Vec<SlotId>, Memory>
     Ok(slots)
 }
 
-// The entry of a link: the pair of a couple, by the slot of the first.
+// The entry of a link: a pair of a couple, with the slot at side A.
 fn link(
     alloc: Global,
     listing: &Listing<'_>,
@@ -55,7 +55,7 @@ fn link(
     json!(in alloc; [from, name, to])
 }
 
-// Adds the links of a couple by a slot of it, in order of addition.
+// Adds the entries of the links of a couple, given by its slot at side A, in the order of linking.
 fn add_links(
     alloc: Global,
     list: &mut Vec<Json>,
@@ -71,7 +71,7 @@ fn add_links(
     Ok(())
 }
 
-/// The entries of all links, couple by couple.
+/// Returns the entries of all links, couple by couple.
 pub(crate) fn links(alloc: Global, listing: &Listing<'_>) -> Result<Json, Memory>
     ensures { IfOk result (λ json. view json ≡ list_data (flat_map (links_by listing.now) (couples listing.now.schema))) }
 {
@@ -97,7 +97,7 @@ fn member(
     json!(in alloc; [name, space])
 }
 
-// Adds the entries of a unit in its spaces, rising.
+// Adds the entries of a unit in its spaces, ascending.
 fn add_members(
     alloc: Global,
     list: &mut Vec<Json>,
@@ -112,7 +112,7 @@ fn add_members(
     Ok(())
 }
 
-/// The entries of all units in their spaces, unit by unit.
+/// Returns the entries of all units in their spaces, unit by unit.
 pub(crate) fn members(alloc: Global, listing: &Listing<'_>) -> Result<Json, Memory>
     ensures { IfOk result (λ json. view json ≡
         list_data (flat_map (members_of listing.now) (live_units listing.now.world.units))) }

@@ -1,5 +1,5 @@
-//! A blackboard with a list of its live units, by which each gets its name. `document.rt` makes one, and all that
-//! writes an entry goes by it.
+//! A blackboard with a list of its live units, which determines the units' names. `document.rt` makes one, and the
+//! writers of entries use it.
 
 ghost use Rattle.std.specs.Prelude.{◌≡◌, ◌≤◌, IfOk, decimal, filter, length, nat_lt};
 ghost use Rattle.std.specs.List.Sorted.{IsStrictlySortedBy};
@@ -16,7 +16,7 @@ use serde_json::Value as Json;
 use std::alloc::Global;
 use std::marker::Model;
 
-/// A blackboard, and its live units, rising. Contracts see what a native sees of it.
+/// A blackboard and its live units, ascending. Contracts see the view that a native has of the blackboard.
 #[derive(Drop)]
 pub(crate) struct Listing<'a> {
     view: &'a View<'a>,
@@ -38,7 +38,7 @@ impl<'a> Model for Listing<'a> {
     ghost invariant = { λ l. l.live.items ≡ live_units l.view.now.world.units };
 }
 
-// The number of units of a list that rises which are lower than one.
+// The number of units in an ascending list that are lower than a unit.
 fn lower(live: &[UnitId], unit: UnitId) -> usize
     requires { IsStrictlySortedBy nat_cmp live.now }
     ensures count { result ≡ length (filter (λ n. nat_lt n unit) live.now) }
@@ -58,7 +58,7 @@ fn numbered(alloc: Global, number: u64) -> Result<Json, Memory>
 }
 
 impl<'a> Listing<'a> {
-    /// A blackboard with a list of its live units.
+    /// Makes the listing of a blackboard. Fails only if memory runs out.
     pub(crate) fn new(view: &'a View<'a>) -> Result<Listing<'a>, Memory>
         ensures { IfOk result (λ listing. listing ≡ view.now) }
     {
@@ -68,28 +68,28 @@ impl<'a> Listing<'a> {
         })
     }
 
-    /// The blackboard.
+    /// Returns the blackboard.
     pub(crate) fn view(&self) -> &View<'a>
         ensures { result.now ≡ self.now }
     {
         self.view
     }
 
-    /// The schema.
+    /// Returns the schema.
     pub(crate) fn schema(&self) -> &Schema
         ensures { result.now ≡ self.now.schema }
     {
         self.view.schema()
     }
 
-    /// The live units, rising.
+    /// Returns the live units, ascending.
     pub(crate) fn units(&self) -> &[UnitId]
         ensures { result.now ≡ live_units self.now.world.units }
     {
         &self.live
     }
 
-    /// The name of a unit: one more than the number of live units below it, in decimal.
+    /// Returns the name of a unit: one more than the count of live units with lower numbers, in decimal.
     pub(crate) fn name(&self, alloc: Global, unit: UnitId) -> Result<Json, Memory>
         ensures { IfOk result (λ json. view json ≡ string (name_of self.now unit)) }
     {

@@ -1,4 +1,4 @@
-//! A value of a slot as JSON. `given.rt` writes those that a unit gives.
+//! The value of a slot as JSON. `given.rt` writes the values that a unit's entry gives.
 
 ghost use Rattle.std.specs.Prelude.{◌≡◌, [], ◌∷◌, IfOk, option_map};
 ghost use Rattle.serde_json.specs.Data.{number};
@@ -12,14 +12,14 @@ use bb_schema::{LabelId, LabelSetId, Schema, Value};
 use serde_json::{Value as Json, json};
 use std::alloc::Global;
 
-/// A text in JSON, an empty one where there is none.
+/// Returns a text as JSON, an empty one if there is none.
 pub(crate) fn text_json(alloc: Global, text: Option<&str>) -> Result<Json, Memory>
     ensures { IfOk result (λ json. view json ≡ name_data (option_map (λ t. t.now) text.entry)) }
 {
     Json::try_from_str(alloc, text.unwrap_or(""))
 }
 
-// A label by its name.
+// A label as its name.
 fn label_json(
     alloc: Global,
     schema: &Schema,
@@ -39,7 +39,7 @@ fn interval_json(alloc: Global, low: i64, high: i64) -> Result<Json, Memory>
     json!(in alloc; [low, high])
 }
 
-/// A value as JSON: a label by its name, an interval by its two ends.
+/// Returns a value as JSON: a label as its name, an interval as an array of its two ends.
 pub(crate) fn value_json(alloc: Global, schema: &Schema, value: &Value) -> Result<Json, Memory>
     ensures { IfOk result (λ json. view json ≡ value_data schema.now value.now) }
 {
@@ -52,7 +52,7 @@ pub(crate) fn value_json(alloc: Global, schema: &Schema, value: &Value) -> Resul
     }
 }
 
-/// Whether two values are the same.
+/// Returns whether two values are equal.
 pub(crate) fn same_value(value: &Value, other: &Value) -> bool
     ensures { result ≡ same_value value.now other.now }
 {

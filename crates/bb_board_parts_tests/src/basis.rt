@@ -1,4 +1,4 @@
-//! Tests of texts, lists and tables, of which each call is made with memory.
+//! Tests of texts, lists and tables: every call, with enough memory.
 
 use bb_basis::{IdSet, Items, Names, Table, Text};
 use std::test::Fail;

@@ -1,4 +1,4 @@
-//! Tests of the few members that can pass two tests of neighbouring dimensions, which no query shows alone.
+//! Tests of the few members that can pass two tests of neighbouring dimensions, which no query shows directly.
 
 use crate::space::{BOARD, change, no_members, test_of, thousand};
 use bb_pattern::Relation;

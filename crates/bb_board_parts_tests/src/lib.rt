@@ -1,5 +1,5 @@
-//! Tests of the crates that a blackboard is made of, from bb_basis to bb_links and bb_space: calls with memory, and
-//! answers that no case shows. They stand here so that the gate proves those crates once.
+//! Tests of the crates below the blackboard, from bb_basis to bb_links and bb_space: calls with enough memory, and
+//! results that no case shows. They are in one crate so that the gate proves those crates only once.
 #![tactic(auto)]
 
 #[cfg(test)]

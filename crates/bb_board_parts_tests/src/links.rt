@@ -1,5 +1,5 @@
-//! Tests of links: what a link answers with memory, by which slots there is one partner, that a couple takes many
-//! pairs, and all against a plain list of pairs.
+//! Tests of links: what adding a link returns with enough memory, which slots have one partner, that an association
+//! holds many pairs, and all of this against a plain list of pairs.
 
 use bb_links::{Couples, Taken};
 use bb_schema::{CoupleId, Schema, SlotId, UnitId};

@@ -1,4 +1,4 @@
-//! Tests of spaces: their calls with memory, and the candidates, which no query shows.
+//! Tests of spaces: their calls with enough memory, and the candidates, which no query shows.
 
 use bb_basis::Items;
 use bb_pattern::{DimValue, Relation};
@@ -139,7 +139,7 @@ fn as_a_walk(alloc: Global, spaces: &Spaces, leaf: &Leaf) -> Result<bool, Fail> 
     Ok(found.as_slice() == walked.as_slice())
 }
 
-/// Lets a unit enter `board`, leave it or move there, by a number.
+/// Makes a unit enter `board`, leave it or move there, chosen by a number.
 pub(crate) fn change(spaces: &mut Spaces, alloc: Global, number: u64) -> Result<(), Fail> {
     if spaces.count() == 0 {
         return Ok(());
@@ -262,7 +262,7 @@ fn moves_in_several_spaces(rt: HostRuntime) -> Result<(), Fail> {
     Ok(())
 }
 
-/// Units 1 to 1,000 in `board`, each at its number.
+/// Returns units 1 to 1,000 in `board`, each at its number.
 pub(crate) fn thousand(alloc: Global) -> Result<Spaces, Fail> {
     let mut spaces = no_members(alloc)?;
     for unit in 1..=1000u64 {
@@ -297,7 +297,7 @@ fn candidates_by_their_low_ends(rt: HostRuntime) -> Result<(), Fail> {
     Ok(())
 }
 
-/// A relation and an interval by a number.
+/// Returns a test with a relation and an interval chosen by a number.
 pub(crate) fn test_of(number: u64) -> Leaf {
     let low = (number % 32) as i64;
     let high = low + ((number >> 8) % 16) as i64;

@@ -1,4 +1,4 @@
-//! Tests of units: their creation with memory, and values that no code can make.
+//! Tests of units: their creation with enough memory, and values that no code can make.
 
 use bb_schema::{ClassId, Schema, SlotId, UnitId, Value};
 use bb_units::{CreateFault, Units};

@@ -15,9 +15,9 @@ use Rattle.bb_schema_classes.specs.declared.class.Class.{Class}
 use Rattle.bb_schema_classes.specs.declared.value.Value.{Value}
 use Rattle.bb_schema_classes.specs.Kinds.{kind_of_value}
 use Rattle.bb_schema_classes.specs.Values.{value_fits}
-use Rattle.bb_schema_slots.specs.declared.slot.Slot.{Slot}
+use Rattle.bb_schema.specs.declared.slot.Slot.{Slot}
 use Rattle.bb_schema.specs.Schema.{Schema}
-use Rattle.bb_schema_slots.specs.Slots.{default_in}
+use Rattle.bb_schema.specs.Slots.{default_in}
 use Rattle.bb_schema.specs.Couples.{couple_of}
 use Rattle.bb_schema.specs.Fits as schemas
 use Rattle.bb_schema.specs.declared.space.Space.{Space}

@@ -9,7 +9,7 @@ use Rattle.bb_schema_classes.specs.declared.kind.Link.{Link}
 use Rattle.bb_schema.specs.declared.couple.Side.{Side}
 use Rattle.bb_schema.specs.declared.couple.Side.TheVariants.{A, B}
 use Rattle.bb_schema.specs.Schema.{Schema, descends, inverse_of}
-use Rattle.bb_schema_slots.specs.Slots.{link_of}
+use Rattle.bb_schema.specs.Slots.{link_of}
 use Rattle.bb_schema.specs.Couples.{couple_end, couple_of, pair_of}
 use Rattle.bb_schema.specs.Fits as schemas
 use Rattle.bb_units.specs.declared.unit.Unit.{Unit as OneUnit}

@@ -5,11 +5,11 @@ use Rattle.std.specs.List.{list_any}
 use Rattle.std.specs.Option.{option_map_or}
 use Rattle.std.proofs.lemmas.Bool.{or_parts}
 use Rattle.bb_basis.proofs.BoolLemmas.{or_true}
-use Rattle.bb_schema_slots.specs.declared.slot.Slot.{Slot}
+use Rattle.bb_schema.specs.declared.slot.Slot.{Slot}
 use Rattle.bb_schema.specs.Schema.{Schema}
-use Rattle.bb_schema_slots.specs.Slots.{link_in}
+use Rattle.bb_schema.specs.Slots.{link_in}
 use Rattle.bb_schema.specs.Ownership.{owns, owns_any}
-use Rattle.bb_schema_slots.specs.Heirs.{is_owning}
+use Rattle.bb_schema.specs.Heirs.{is_owning}
 
 none_passes : {X : Type 0} (test : X → Bool) (xs : List X) (i : ℕ) → list_any test xs ≡ false → option_map_or test (slice_get xs i) false ≡ false
 none_passes test [] i none = refl

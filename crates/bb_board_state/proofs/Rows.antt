@@ -11,8 +11,8 @@ use Rattle.bb_schema_classes.specs.declared.class.Class.{Class}
 use Rattle.bb_schema_classes.specs.declared.kind.Link.{Link}
 use Rattle.bb_schema_classes.specs.declared.value.Value.TheVariants.{Int}
 use Rattle.bb_schema_classes.specs.Focus.{focus_class}
-use Rattle.bb_schema_slots.specs.declared.slot.Slot.{Slot}
-use Rattle.bb_schema_slots.specs.declared.slot.Content.TheVariants as contents
+use Rattle.bb_schema.specs.declared.slot.Slot.{Slot}
+use Rattle.bb_schema.specs.declared.slot.Content.TheVariants as contents
 use Rattle.bb_schema.specs.Schema.{Schema, slots_of}
 use Rattle.bb_schema.specs.Couples.{firsts}
 use Rattle.bb_units.specs.declared.unit.Unit.{Unit as OneUnit}

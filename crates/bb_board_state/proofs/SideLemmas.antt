@@ -6,9 +6,9 @@ use Rattle.std.proofs.lemmas.Option.{slice_get_within}
 use Rattle.std.proofs.lemmas.Bool.{lt-ltb, ltb-true, ltb-false}
 use Rattle.bb_schema_classes.specs.declared.kind.Link.{Link}
 use Rattle.bb_schema.specs.declared.couple.Side.{Side}
-use Rattle.bb_schema_slots.specs.declared.slot.Slot.{Slot}
+use Rattle.bb_schema.specs.declared.slot.Slot.{Slot}
 use Rattle.bb_schema.specs.Schema.{Schema}
-use Rattle.bb_schema_slots.specs.Slots.{link_in, link_of}
+use Rattle.bb_schema.specs.Slots.{link_in, link_of}
 use Rattle.bb_schema.specs.Couples.{firsts, couple_end, couple_of}
 use Rattle.bb_schema.specs.Fits.{IsCoupled}
 use Rattle.bb_schema.proofs.Laws.{couple_listed}

@@ -10,9 +10,9 @@ use Rattle.std.proofs.lemmas.Option.{slice_get-map}
 use Rattle.std.proofs.lemmas.Slice.Eq.{bytes_eq-Decides}
 use Rattle.bb_schema_classes.specs.declared.class.Class.{Class}
 use Rattle.bb_schema_classes.specs.Inheritance.{is_among}
-use Rattle.bb_schema_slots.specs.declared.slot.Slot.{Slot}
+use Rattle.bb_schema.specs.declared.slot.Slot.{Slot}
 use Rattle.bb_schema.specs.Schema.{Schema, slot_named, slots_of}
-use Rattle.bb_schema_slots.specs.Slots.{has_name}
+use Rattle.bb_schema.specs.Slots.{has_name}
 use Rattle.bb_schema.specs.Fits as schemas
 use Rattle.bb_units.specs.declared.unit.Unit.{Unit}
 use Rattle.bb_units.specs.Layout.{Layout, default_at}

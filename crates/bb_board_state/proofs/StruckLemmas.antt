@@ -12,13 +12,13 @@ use Rattle.bb_schema_classes.specs.Inheritance.{is_among}
 use Rattle.bb_schema_classes.proofs.Laws.{climbs_sound}
 use Rattle.bb_schema.specs.declared.couple.Side.{Side}
 use Rattle.bb_schema.specs.declared.couple.Side.TheVariants.{A, B}
-use Rattle.bb_schema_slots.specs.declared.slot.Slot.{Slot}
+use Rattle.bb_schema.specs.declared.slot.Slot.{Slot}
 use Rattle.bb_schema.specs.Schema.{Schema, slots_of, descends}
-use Rattle.bb_schema_slots.specs.Slots.{link_in, link_of}
+use Rattle.bb_schema.specs.Slots.{link_in, link_of}
 use Rattle.bb_schema.specs.Couples.{couple_of, couple_end}
 use Rattle.bb_schema.specs.Ownership.{owns, heirs, strikes}
 use Rattle.bb_schema.specs.Fits as schemas
-use Rattle.bb_schema_slots.proofs.Laws.{both_related}
+use Rattle.bb_schema.proofs.SlotsLaws.{both_related}
 use Rattle.bb_schema.proofs.Laws.{heirs_itself, heirs_owned, strikes_by_heir}
 use Rattle.bb_units.specs.declared.unit.Unit.{Unit as OneUnit}
 use Rattle.bb_units.specs.Units.{class_of}

@@ -3,7 +3,7 @@ use Rattle.std.specs.Prelude.{ℕ, Bool, true, false, not, is_some, nat_lt, ◌=
 use Rattle.std.specs.Option.{option_map_or}
 use Rattle.bb_schema_classes.specs.declared.value.Value.{Value}
 use Rattle.bb_schema.specs.Schema.{Schema, owner_of, descends}
-use Rattle.bb_schema_slots.specs.Slots.{link_of}
+use Rattle.bb_schema.specs.Slots.{link_of}
 use Rattle.bb_units.specs.Units.{is_live, class_of, has_slot, takes}
 use Rattle.bb_board_state.specs.declared.reason.Reason.{Reason}
 use Rattle.bb_board_state.specs.declared.reason.Reason.TheVariants.{Deleted, Slot, Kind, LinkClass, Space}

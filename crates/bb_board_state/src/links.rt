@@ -1,7 +1,7 @@
 //! The steps of a blackboard's state that change links, and what they note. A world takes them.
 
 ghost use Rattle.std.specs.Prelude.{◌≡◌, ◌<◌, ◌++◌, length, IfSome, IsSome, IfOk, OnOk, OnErr};
-ghost use Rattle.bb_schema_slots.specs.Slots.{link_of};
+ghost use Rattle.bb_schema.specs.Slots.{link_of};
 ghost use Rattle.bb_schema.specs.Couples.{couple_of};
 ghost use Rattle.bb_board_state.specs.World.{class_at, event};
 ghost use Rattle.bb_board_state.specs.Links.{joining, parting, pair_parting, own_pair, partners_pair, link_notes};

@@ -1,4 +1,5 @@
-//! Tests of a blackboard: units, links, notes and first units with memory. Those of spaces stand in board_spaces.rt.
+//! Tests of a blackboard: units, links, notes and initial units, with enough memory. board_spaces.rt has the tests of
+//! spaces.
 
 use bb_board::{Board, Change, Event, Note, Reason, Said, SharedSchema, UnitsFault};
 use bb_schema::{Schema, SlotId, UnitId, Value};
@@ -29,7 +30,7 @@ fn empty(alloc: Global) -> Result<Board, Fail> {
     Ok(Board::new(alloc, Schema::read(alloc, SCHEMA)?)?)
 }
 
-/// What a fresh blackboard answers to a document of first units.
+/// Returns what a fresh blackboard answers to a document of initial units.
 pub(crate) fn load(board: &mut Board, text: &str) -> Result<(), UnitsFault> {
     if !board.fresh() {
         return Err(UnitsFault::Memory);
@@ -114,7 +115,7 @@ fn add_change(
     Ok(())
 }
 
-/// What a blackboard noted, which is taken from it.
+/// Takes the notes of a blackboard, and returns them as text.
 pub(crate) fn noted(alloc: Global, board: &mut Board) -> Result<String, Fail> {
     let mut text = String::new(alloc);
     let notes = board.take_notes();

@@ -1,4 +1,4 @@
-//! Tests of spaces on a blackboard with memory. Those of units and links stand in board.rt.
+//! Tests of spaces on a blackboard, with enough memory. board.rt has the tests of units and links.
 
 ghost use Rattle.std.specs.Prelude.{◌≡◌, IfOk, map};
 ghost use Rattle.bb_pattern.specs.Values.{kind_of_operand};
@@ -34,7 +34,7 @@ pub(crate) const BOARD: SpaceId = 0;
 
 const DESK: SpaceId = 1;
 
-/// A blackboard with the units of a document, whose notes are taken.
+/// Returns a blackboard with the units of a document, whose notes are taken.
 pub(crate) fn loaded(alloc: Global, text: &str) -> Result<Board, Fail> {
     let mut board = Board::new(alloc, Schema::read(alloc, SCHEMA)?)?;
     load(&mut board, text)?;
@@ -61,7 +61,7 @@ pub(crate) fn leave(board: &mut Board, unit: UnitId, space: SpaceId) -> Result<(
     Ok(())
 }
 
-/// The kinds of operands, two at most. More are not asked for.
+/// Returns the kinds of at most two operands. More are not asked for.
 pub(crate) fn kinds_of(alloc: Global, operands: &[DimValue]) -> Result<Items<OperandKind>, Fail>
     ensures { IfOk result (λ kinds. kinds ≡ map kind_of_operand operands.now) }
 {
@@ -81,7 +81,7 @@ pub(crate) fn kinds_of(alloc: Global, operands: &[DimValue]) -> Result<Items<Ope
     }
 }
 
-/// What a query answers.
+/// Returns what a query answers.
 pub(crate) fn found(
     alloc: Global,
     board: &Board,
@@ -102,7 +102,7 @@ pub(crate) fn found(
     }
 }
 
-/// The things on the board within `[low, high]`.
+/// Returns the things on the board within `[low, high]`.
 pub(crate) fn within(
     alloc: Global,
     board: &Board,

@@ -1,4 +1,4 @@
-//! Tests of documents: their text, and that a blackboard that loads one writes the same.
+//! Tests of documents: their text, and that a blackboard that loads one writes the same document.
 
 use bb_board::{Board, UnitsFault};
 use bb_board_document::units_document;

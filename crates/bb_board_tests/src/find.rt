@@ -1,4 +1,4 @@
-//! A test of what queries find on a blackboard after each of many changes, against a scan of what was told.
+//! A test of what queries find on a blackboard after each of many changes, compared with a scan of what it was told.
 
 use crate::board_spaces::{enter, found, leave, set};
 use crate::pattern::{is, not, ordered};

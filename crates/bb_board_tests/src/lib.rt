@@ -1,5 +1,5 @@
-//! Tests of patterns, of queries, of the blackboard and its document, and of rosters of natives: calls with memory, and
-//! answers that no case shows. They stand here so that the gate proves those crates once.
+//! Tests of patterns, queries, the blackboard and its document, and rosters of natives: calls with enough memory, and
+//! results that no case shows. They are in one crate so that the gate proves those crates only once.
 #![tactic(auto)]
 
 #[cfg(test)]

@@ -1,4 +1,4 @@
-//! Tests of rosters: natives of several types and of one name, each with memory, and natives that record their close.
+//! Tests of rosters: natives of several types and of one name, with enough memory, and natives that record their close.
 
 ghost use Rattle.std.specs.Prelude.{◌≡◌, true, map, IfOk};
 ghost use Rattle.bb_native.specs.Roster.{all_open};

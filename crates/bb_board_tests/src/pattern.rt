@@ -1,4 +1,4 @@
-//! Tests of patterns and queries where no code shows what they answer: which fault they have, and what is not there.
+//! Tests of patterns and queries whose results no code shows: which fault they have, and what does not exist.
 
 use bb_basis::{Items, Text};
 use bb_pattern::{DimValue, Node, OperandKind, Pattern, Query, Relation};

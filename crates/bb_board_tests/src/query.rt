@@ -1,4 +1,4 @@
-//! Tests of what queries find with memory, also against a scan of all units.
+//! Tests of what queries find with enough memory, also compared with a scan of all units.
 
 ghost use Rattle.std.specs.Prelude.{IfOk};
 ghost use Rattle.bb_query.specs.Knows.{Knows};
@@ -248,7 +248,7 @@ fn as_a_scan(rt: HostRuntime) -> Result<(), Fail> {
     Ok(())
 }
 
-/// Two patterns.
+/// Returns two patterns as a list.
 pub(crate) fn two(alloc: Global, one: Pattern, other: Pattern) -> Result<Vec<Pattern>, Fail> {
     let mut parts = Vec::new(alloc);
     parts.push(one)?;

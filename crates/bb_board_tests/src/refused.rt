@@ -1,5 +1,5 @@
-//! A blackboard to which memory is refused: no change is made after that, and what is read answers as before. Here memory
-//! suffices for all; `tools/refuse` runs this test once for each request for memory, which is refused then.
+//! A blackboard that is refused memory: no change is made afterwards, and reads answer as before. Here memory suffices
+//! for everything; `tools/refuse` runs this test once for every request for memory, and refuses that request.
 
 use crate::board_spaces::{BOARD, loaded, within};
 use bb_board::{Board, Said};

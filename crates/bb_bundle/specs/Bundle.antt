@@ -1,4 +1,4 @@
--- The sources that a bundle spells, or its first fault: one line after another, from the top.
+-- The sources of a bundle, or its first fault: the parser's state after each line, from the top.
 use Rattle.std.specs.Prelude.{ℕ, ◌+◌, ◌==◌, List, [], ◌∷◌, ◌++◌, length, Option, Some, None, Result, Ok, Err}
 use Rattle.std.specs.Prelude.{if◌then◌else◌}
 use Rattle.std.specs.Str.Lines.{lines}
@@ -22,24 +22,24 @@ use Rattle.bb_bundle.specs.Line.{words_of, header_of, digits_of, class_and_digit
 use Rattle.bb_bundle.specs.Drafts.{no_parts, with_require, with_obviate, with_retrigger, with_revalidate}
 use Rattle.bb_bundle.specs.Partial.{may_come, with_act, with_clause, with_parts}
 
--- what was read so far
+-- the state of the parser
 pub record Parser : Type 0 where
   -- the number of lines
   pub lines : ℕ
-  -- the whole sources
+  -- the complete sources
   pub sources : List (SourceDraft Code)
   -- the source whose act is still to come
   pub partial : Option PartialSource
 
--- nothing was read
+-- the state before the first line
 abbrev pub new_parser : Parser
 new_parser = record { lines = 0; sources = []; partial = None }
 
--- a source whose act is still to come
+-- the state with a source whose act is still to come
 abbrev pub with_source : Parser → PartialSource → Parser
 with_source p source = record { lines = p.lines; sources = p.sources; partial = Some source }
 
--- a source that its act completes, if a bundle can spell it
+-- the state after a source was completed by its act; a fault if no bundle can spell it
 unfoldable pub with_whole : Parser → PartialSource → ActDraft Code → Result Parser BundleFault
 with_whole p source act = do
   whole ← ok_or (if_spelled (with_act source act)) (Line p.lines)
@@ -70,7 +70,7 @@ after_first p ws = do
   header ← ok_or (header_of ws) (Line p.lines)
   Ok (with_source p (record { header = header; parts = no_parts }))
 
--- after one more clause
+-- after a clause
 unfoldable pub after_when : Parser → PartialSource → List (List ℕ) → Result Parser BundleFault
 after_when p source ws = do
   clause ← ok_or (clause_of ws) (Line p.lines)
@@ -110,7 +110,7 @@ after_do p source ws = do
 unfoldable pub after_native : Parser → PartialSource → List (List ℕ) → Result Parser BundleFault
 after_native p source ws = if length ws == 0 then with_whole p source Native else Err (Line p.lines)
 
--- after a further line of a source, which may come next: one more clause, part or act
+-- after a line whose keyword may come next: a clause, a part or an act
 unfoldable pub after_keyword : Parser → PartialSource → Keyword → List (List ℕ) → Result Parser BundleFault
 after_keyword p source keywords.When ws = after_when p source ws
 after_keyword p source keywords.Require ws = after_require p source ws
@@ -120,30 +120,30 @@ after_keyword p source keywords.Revalidate ws = after_revalidate p source ws
 after_keyword p source keywords.Do ws = after_do p source ws
 after_keyword p source keywords.Native ws = after_native p source ws
 
--- after a further line of a source: its first word says what it is, and it has to come in order
+-- after a line of a source that is not its first: the keyword says what it is, and must come in order
 unfoldable pub after_further : Parser → PartialSource → List (List ℕ) → Result Parser BundleFault
 after_further p source [] = Err (Line p.lines)
 after_further p source (word ∷ ws) = do
   keyword ← ok_or (keyword_of word) (Line p.lines)
   if may_come source keyword then after_keyword p source keyword ws else Err (Line p.lines)
 
--- after a line that is not empty, where the source that is partial is apart
+-- after a line that is not empty; the incomplete source, if there is one, is given apart from the state
 abbrev pub after_words : Parser → Option PartialSource → List (List ℕ) → Result Parser BundleFault
 after_words p None ws = after_first p ws
 after_words p (Some source) ws = after_further p source ws
 
--- after a line; an empty one says nothing
+-- after a line; empty lines are ignored
 unfoldable pub after_line : Parser → List ℕ → Result Parser BundleFault
 after_line p line =
     if length line == 0 then Ok (record { lines = p.lines + 1; sources = p.sources; partial = p.partial })
     else after_words (record { lines = p.lines + 1; sources = p.sources; partial = None }) p.partial (words_of line)
 
--- the whole sources, where none is partial
+-- the complete sources, if no source is incomplete
 abbrev pub all_whole : ℕ → List (SourceDraft Code) → Option PartialSource → Result (List (SourceDraft Code)) BundleFault
 all_whole line sources None = Ok sources
 all_whole line sources (Some source) = Err (Line line)
 
--- at the end of the text; the line of a fault is the one after the last
+-- at the end of the text; a fault there has the number of the line after the last
 abbrev pub at_end : Parser → Result (List (SourceDraft Code)) BundleFault
 at_end p = all_whole (p.lines + 1) p.sources p.partial
 

@@ -1,4 +1,4 @@
--- The parts of a source besides its act, put one after another.
+-- The parts of a source other than its act, and how one of them is replaced.
 use Rattle.std.specs.Prelude.{Option, None}
 use Rattle.bb_bundle.specs.declared.draft.Parts.{Parts}
 use Rattle.bb_bundle.specs.declared.draft.ReactionDraft.{ReactionDraft}
@@ -7,7 +7,7 @@ use Rattle.bb_bundle.specs.declared.draft.ReactionDraft.{ReactionDraft}
 abbrev pub no_parts : {C : Type 0} → Parts C
 no_parts = record { require = None; obviate = None; retrigger = None; revalidate = None }
 
--- the parts with another one in place of what was there
+-- the parts with one of them replaced
 abbrev pub with_require : {C : Type 0} → Parts C → Option C → Parts C
 with_require parts code = record parts { require = code }
 

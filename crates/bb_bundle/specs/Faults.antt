@@ -1,4 +1,4 @@
--- The numbers by which refusals name what is wrong with a bundle.
+-- The numbers of the faults of bundles in refusal lines.
 use Rattle.std.specs.Prelude.{ℕ}
 use Rattle.bb_bundle.specs.declared.fault.BundleFault.{BundleFault}
 use Rattle.bb_bundle.specs.declared.fault.BundleFault.TheVariants.{Line, Hex, Code, Memory}

@@ -1,11 +1,11 @@
--- The words that a further line of a source begins with.
+-- The words that begin the lines of a source after its first.
 use Rattle.std.specs.Prelude.{ℕ, List, Option, Some, None, codes, if◌then◌else◌}
 use Rattle.std.specs.Str.{bytes_eq}
 use Rattle.bb_bundle.specs.declared.keyword.Keyword.{Keyword}
 use Rattle.bb_bundle.specs.declared.keyword.Keyword.TheVariants.{When, Require, Obviate, Retrigger, Revalidate, Do}
 use Rattle.bb_bundle.specs.declared.keyword.Keyword.TheVariants.{Native}
 
--- the keyword that a word is
+-- the keyword that a word spells
 unfoldable pub keyword_of : List ℕ → Option Keyword
 keyword_of word =
     if bytes_eq word (codes "when") then Some When

@@ -1,24 +1,24 @@
 -- the number of each fault of a bundle
 pub mod Faults
--- the parts of a source, put one after another
+-- the parts of a source other than its act
 pub mod Drafts
 -- which sources a bundle can spell
 pub mod Spelled
--- which digits write a rate
+-- which words spell a rate
 pub mod Rate
 -- the clause that a `when` line spells
 pub mod Clauses
--- what a further line of a source begins with
+-- the words that begin the lines of a source after its first
 pub mod Keywords
--- what a line says by itself
+-- a single line of a bundle
 pub mod Line
--- what was read so far of a source
+-- what has been read of a source so far
 pub mod Partial
 -- the sources of a bundle
 pub mod Bundle
--- the text that is written for sources
+-- the text of sources
 pub mod Written
--- for models and private contracts alone
+-- used only in models and private contracts
 pub mod proving
 -- the clauses of a source
 pub use Rattle.bb_lang_tree.specs.declared.source_text.ChangeText

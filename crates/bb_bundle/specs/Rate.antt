@@ -1,21 +1,21 @@
--- The rate that a word writes.
+-- The rate that a word spells.
 use Rattle.std.specs.Prelude.{ℕ, ◌+◌, ◌-◌, ◌*◌, ◌^◌, ℤ, pos, neg_ℤ, ◌&&◌, ◌==◌, nat_le, List, [], ◌∷◌, length, Option}
 use Rattle.std.specs.Prelude.{Some, None, option_map, if◌then◌else◌}
 use Rattle.std.specs.List.{list_all}
 use Rattle.bb_basis.specs.Names.{is_digit}
 
--- the number that the digits of n and then these digits write
+-- the number spelled by the digits of n followed by these digits
 abbrev pub with_digits : ℕ → List ℕ → ℕ
 with_digits n [] = n
 with_digits n (d ∷ ds) = with_digits (n * 10 + (d - 48)) ds
 
--- the number of one digit or more, if it is within the limit
+-- the number spelled by one digit or more, if it is at most the limit
 unfoldable pub number_up_to : ℕ → List ℕ → Option ℕ
 number_up_to limit ds =
     if list_all is_digit ds && nat_le 1 (length ds) && nat_le (with_digits 0 ds) limit
     then Some (with_digits 0 ds) else None
 
--- a rate: digits, or `-` and digits, of a number that 64 bits hold
+-- a rate: digits, or `-` and digits, of a number that fits in 64 bits
 unfoldable pub rate_of : List ℕ → Option ℤ
 rate_of [] = None
 rate_of (b ∷ bs) =

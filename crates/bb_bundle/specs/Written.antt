@@ -1,4 +1,4 @@
--- The text that is written for sources: one line for each part, and the parts in order.
+-- The text of sources: a line for each part and each clause, the parts in order.
 use Rattle.std.specs.Prelude.{ℕ, List, [], ◌∷◌, ◌++◌, map, Option, Some, None, codes}
 use Rattle.std.specs.List.{flat_map, join_with_byte}
 use Rattle.std.specs.Fmt.{signed_decimal}
@@ -16,11 +16,11 @@ use Rattle.bb_bundle.specs.declared.draft.Header.{Header}
 use Rattle.bb_bundle.specs.declared.draft.ReactionDraft.{ReactionDraft}
 use Rattle.bb_bundle.specs.declared.draft.SourceDraft.{SourceDraft}
 
--- the words of a line, of which there are four at most
+-- the words of a line, four at most
 abbrev pub Words : Type 0
 Words = List (List ℕ)
 
--- a line: its words with a space between each two, and a line feed
+-- a line: its words, separated by spaces, and a line feed
 abbrev pub line_text : Words → List ℕ
 line_text ws = join_with_byte 32 ws ++ 10 ∷ []
 
@@ -47,12 +47,12 @@ clause_words Quiescence = codes "when" ∷ codes "quiescence" ∷ []
 abbrev pub code_digits : Code → List ℕ
 code_digits code = encode_lower (spelling code)
 
--- a part that is a code alone, where it is there
+-- a part that consists of a code only, if it is present
 abbrev pub code_lines : (keyword : List ℕ) → Option Code → List Words
 code_lines keyword None = []
 code_lines keyword (Some code) = (keyword ∷ code_digits code ∷ []) ∷ []
 
--- a reaction with its clauses, where it is there
+-- a reaction with its clauses, if it is present
 abbrev pub reaction_lines : (keyword : List ℕ) → Option (ReactionDraft Code) → List Words
 reaction_lines keyword None = []
 reaction_lines keyword (Some reaction) =

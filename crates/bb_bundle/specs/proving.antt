@@ -1,5 +1,5 @@
--- What only models and private contracts speak of.
--- how what was read is stored as data that can be told apart
+-- Definitions used only in models and private contracts.
+-- an injective encoding of the parser's state
 pub mod Codes
--- what the writer knows of what it wrote
+-- what the writer proves about what it wrote
 pub mod Again

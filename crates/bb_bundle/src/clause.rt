@@ -1,4 +1,4 @@
-//! The clause that a `when` line spells. The parser calls it for each.
+//! Reads the clause of a `when` line. The parser calls it for each.
 
 ghost use Rattle.std.specs.Prelude.{◌≡◌, map, option_map, IfOk};
 ghost use Rattle.bb_bundle.specs.Clauses.{unit_change, slot_change, space_change, split_dot, unit_clause, slot_clause};
@@ -51,7 +51,7 @@ fn space_change(event: &str, space: Text) -> Option<ChangeText>
     None
 }
 
-// What comes before the first dot of a word, and what comes after it.
+// Splits a word at its first dot.
 fn split_dot(word: &str) -> Option<(&str, &str)>
     ensures { option_map (λ p. (p.0.now, p.1.now)) result ≡ split_dot word.now }
 {
@@ -111,7 +111,7 @@ fn read_space_clause(
     read_unit_clause(alloc, kind, class)
 }
 
-// A clause of an event and one word more, which names a class, or a class and a slot with a dot between.
+// Reads a clause of an event and one more word, which names a class, or a class and a slot with a dot between.
 #[tactic(auto, unfolding(crate::specs::Clauses::subject_clause))]
 fn read_subject_clause(
     alloc: Global,
@@ -139,7 +139,7 @@ fn quiescence(event: &str) -> Option<ClauseText>
     None
 }
 
-/// The clause that the words after `when` spell.
+/// Returns the clause that the words after `when` spell. `None`: they do not spell a clause.
 #[tactic(auto, unfolding(crate::specs::Clauses::clause_of))]
 pub(crate) fn read_clause(alloc: Global, words: &[&str]) -> Result<Option<ClauseText>, AllocError>
     ensures { IfOk result (λ c. c ≡ clause_of (map (λ w. w.now) words.now)) }

@@ -1,6 +1,5 @@
-//! A source whose names are texts that are not looked up yet: its header, its parts and its act. The parser of bundles
-//! and the compiler (bb_compile) make it with a `Code` for each part, bb_shell turns these into `Checked` codes, and
-//! bb_rules makes a source of it.
+//! Drafts: sources whose names are texts, not looked up yet. The parser of bundles and the compiler (bb_compile) make
+//! them with a `Code` for each part, bb_shell turns the codes into `Checked` ones, and bb_rules makes sources of them.
 
 ghost use Rattle.std.specs.Prelude.{◌≡◌};
 ghost use Rattle.bb_bundle.specs.Drafts.{no_parts, with_obviate, with_require, with_retrigger, with_revalidate};
@@ -9,7 +8,7 @@ use bb_basis::{Items, Text};
 use bb_lang_tree::ClauseText;
 use std::mem;
 
-/// What a source has besides its codes.
+/// The name, class, rate and triggers of a source.
 #[derive(Drop)]
 pub struct Header {
     /// The source's name.
@@ -18,34 +17,34 @@ pub struct Header {
     pub class: Text,
     /// The base rating of its activations.
     pub rate: i64,
-    /// Which events trigger it.
+    /// The events that trigger it.
     pub triggers: Items<ClauseText>,
 }
 
-/// What a source does about its pending activations when certain events happen: `C` is the code.
+/// What a source does about its pending activations when certain events happen. `C` is the type of its code.
 #[derive(Drop)]
 pub struct ReactionDraft<C> {
-    /// The name of the class of the units whose events are told.
+    /// The name of the class of the units whose events it reacts to.
     pub class: Text,
-    /// Which events the source reacts to.
+    /// The events that the source reacts to.
     pub clauses: Items<ClauseText>,
-    /// The code that says what it does then.
+    /// The code that decides about each pending activation.
     pub code: C,
 }
 
-/// The parts that a source has besides its act, where it has them: `C` is the code.
+/// The parts of a source other than its act, if it has them. `C` is the type of codes.
 pub struct Parts<C> {
-    /// Whether an event that triggers it makes an activation, and with which base rating.
+    /// Decides whether a triggering event makes an activation, and its base rating.
     pub require: Option<C>,
-    /// Which pending activations end without acting.
+    /// Selects the pending activations that end without acting.
     pub obviate: Option<ReactionDraft<C>>,
-    /// Which pending activations are rated again.
+    /// Selects the pending activations that are rated again.
     pub retrigger: Option<ReactionDraft<C>>,
-    /// Whether an activation that was chosen may still act.
+    /// Decides whether a chosen activation may still act.
     pub revalidate: Option<C>,
 }
 
-/// What an activation does: `C` is the code.
+/// What an activation does. `C` is the type of its code.
 #[derive(Drop)]
 pub enum ActDraft<C> {
     /// The activation executes this code.
@@ -59,13 +58,13 @@ pub enum ActDraft<C> {
 pub struct SourceDraft<C> {
     /// The name, class, rate and triggers.
     pub header: Header,
-    /// The parts besides the act.
+    /// The parts other than the act.
     pub parts: Parts<C>,
     /// What an activation does.
     pub act: ActDraft<C>,
 }
 
-// By hand, so that a proof meets one call where parts are dropped, and not each of them.
+// Written by hand, so that a proof meets one call when parts are dropped, not one for each of them.
 impl<C: Drop> Drop for Parts<C> {
     fn drop(self) {
         let Parts {
@@ -78,7 +77,7 @@ impl<C: Drop> Drop for Parts<C> {
 }
 
 impl<C> Parts<C> {
-    /// No parts.
+    /// Returns no parts.
     pub fn none() -> Parts<C>
         ensures { result ≡ no_parts }
     {
@@ -92,28 +91,28 @@ impl<C> Parts<C> {
 }
 
 impl<C: Drop> Parts<C> {
-    /// Puts a code that says whether an activation is made, in place of the one that was there.
+    /// Replaces the code that decides whether an activation is made.
     pub fn put_require(&mut self, code: Option<C>)
         ensures { self.new ≡ with_require self.old code }
     {
         drop(mem::replace(&mut self.require, code));
     }
 
-    /// Puts a reaction that ends activations, in place of the one that was there.
+    /// Replaces the reaction that ends activations.
     pub fn put_obviate(&mut self, reaction: Option<ReactionDraft<C>>)
         ensures { self.new ≡ with_obviate self.old reaction }
     {
         drop(mem::replace(&mut self.obviate, reaction));
     }
 
-    /// Puts a reaction that rates activations again, in place of the one that was there.
+    /// Replaces the reaction that rates activations again.
     pub fn put_retrigger(&mut self, reaction: Option<ReactionDraft<C>>)
         ensures { self.new ≡ with_retrigger self.old reaction }
     {
         drop(mem::replace(&mut self.retrigger, reaction));
     }
 
-    /// Puts a code that says whether an activation may still act, in place of the one that was there.
+    /// Replaces the code that decides whether an activation may still act.
     pub fn put_revalidate(&mut self, code: Option<C>)
         ensures { self.new ≡ with_revalidate self.old code }
     {

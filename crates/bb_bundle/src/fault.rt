@@ -1,4 +1,4 @@
-//! Why a text is no bundle. Refusal lines name it by its number.
+//! Faults of bundles. Refusal lines have their numbers.
 
 ghost use Rattle.std.specs.Prelude.{◌≡◌};
 ghost use Rattle.bb_bundle.specs.declared.fault.BundleFault.TheVariants.{Memory as OutOfMemory};
@@ -8,17 +8,17 @@ use bb_code::CodeFault;
 use std::alloc::{AllocError, AllocFailed};
 use thiserror::Error;
 
-/// What is wrong with a bundle: the first fault from the top. Lines count from 1, the empty ones too.
+/// What is wrong with a bundle: the first fault from the top. Lines count from 1, empty lines included.
 #[derive(Clone, Copy, Debug, PartialEq, Eq, Error)]
 pub enum BundleFault {
-    /// The line is none of a bundle, or does not belong there. Where the text ends inside a source, `line` is the one
-    /// after the last.
+    /// The line is not one of a bundle, or does not belong there. If the text ends inside a source, `line` is the
+    /// number after the last line's.
     #[error("line {line} is not a line of a bundle, or does not belong there")]
     Line { line: u64 },
     /// The code is not in hex digits, two for each byte.
     #[error("line {line} is not in hex digits")]
     Hex { line: u64 },
-    /// The bytes are no code.
+    /// The bytes are not a code.
     #[error("the bytes of line {line} are no code")]
     Code { line: u64, fault: CodeFault },
     /// Memory ran out.
@@ -27,7 +27,7 @@ pub enum BundleFault {
 }
 
 impl BundleFault {
-    /// The number by which a refusal line names the fault, from 1 to 4.
+    /// Returns the number of the fault in a refusal line, from 1 to 4.
     pub fn number(self) -> u8
         ensures { result ≡ fault_number self }
     {

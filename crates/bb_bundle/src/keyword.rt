@@ -1,9 +1,9 @@
-//! The words that a further line of a source begins with. The parser asks for the one of each line.
+//! The words that begin the lines of a source after its first. The parser looks up the first word of each line.
 
 ghost use Rattle.std.specs.Prelude.{◌≡◌};
 ghost use Rattle.bb_bundle.specs.Keywords.{keyword_of};
 
-/// What a further line of a source says.
+/// The kind of a line of a source after its first.
 #[derive(Clone, Copy)]
 pub(crate) enum Keyword {
     /// `when EVENT`
@@ -22,7 +22,7 @@ pub(crate) enum Keyword {
     Native,
 }
 
-/// The keyword that a word is.
+/// Returns the keyword that a word spells.
 #[tactic(auto, unfolding(crate::specs::Keywords::keyword_of))]
 pub(crate) fn keyword_of(word: &str) -> Option<Keyword>
     ensures { result ≡ keyword_of word.now }

@@ -1,9 +1,8 @@
-//! Sources as the text of a bundle, and back.
+//! Reads and writes bundles: sources with their compiled codes, as text.
 //!
 //! - In: the text of a bundle, or sources with their codes.
-//! - Out: `unbundle`, the sources that it spells, or the first `BundleFault` with its line; `bundle`, the text of
-//!   sources.
-//! - Callers rely on: what `bundle` writes `unbundle` reads as the same sources.
+//! - Out: `unbundle`, the sources of a bundle, or the first `BundleFault` with its line; `bundle`, the text of sources.
+//! - Callers rely on: `unbundle` reads what `bundle` writes as the same sources.
 //! - Cases: `bundles`, `model-compiles`; tests in bb_rules_tests.
 #![tactic(auto)]
 

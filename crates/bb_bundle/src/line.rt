@@ -1,4 +1,4 @@
-//! What a line of a bundle says by itself. The parser calls it for each line.
+//! Reads a single line of a bundle, regardless of the lines around it. The parser calls it for each line.
 
 ghost use Rattle.std.specs.Prelude.{◌≡◌, map, option_map, IfOk};
 ghost use Rattle.bb_bundle.specs.Line.{words_of, header_of, digits_of, class_and_digits_of};
@@ -8,17 +8,17 @@ use crate::rate::rate_of;
 use bb_basis::{Items, Text, is_name};
 use std::alloc::{AllocError, Global};
 
-/// How many words of a line are read at most. No line of a bundle has as many.
+/// The maximum number of words read of a line. No line of a bundle has this many.
 pub(crate) const WORD_LIMIT: usize = 5;
 
-/// The first words of a line. Between two spaces that follow each other there is an empty one.
+/// Returns the first words of a line. Between two consecutive spaces there is an empty word.
 pub(crate) fn split_words(alloc: Global, line: &str) -> Result<Vec<&str>, AllocError>
     ensures { IfOk result (λ ws. map (λ w. w.now) ws.items ≡ words_of line.now) }
 {
     line.split(' ').take(WORD_LIMIT).collect(alloc)
 }
 
-/// `source NAME CLASS RATE`
+/// Reads `source NAME CLASS RATE` into a header without triggers. `None`: the words are something else.
 #[tactic(auto, unfolding(crate::specs::Line::header_of))]
 pub(crate) fn read_header(alloc: Global, words: &[&str]) -> Result<Option<Header>, AllocError>
     ensures { IfOk result (λ h. h ≡ header_of (map (λ w. w.now) words.now)) }
@@ -40,7 +40,7 @@ pub(crate) fn read_header(alloc: Global, words: &[&str]) -> Result<Option<Header
     }))
 }
 
-/// `HEX`: its digits.
+/// Reads `HEX` and returns the word, unless it is empty. `None`: there is another number of words, or an empty one.
 #[tactic(auto, unfolding(crate::specs::Line::digits_of))]
 pub(crate) fn read_digits<'a>(words: &[&'a str]) -> Option<&'a str>
     ensures { option_map (λ h. h.now) result ≡ digits_of (map (λ w. w.now) words.now) }
@@ -51,7 +51,7 @@ pub(crate) fn read_digits<'a>(words: &[&'a str]) -> Option<&'a str>
     }
 }
 
-/// `CLASS HEX`: the name and the digits.
+/// Reads `CLASS HEX` and returns both words. `None`: the words are something else.
 #[tactic(auto, unfolding(crate::specs::Line::class_and_digits_of))]
 pub(crate) fn read_class_and_digits<'a>(words: &[&'a str]) -> Option<(&'a str, &'a str)>
     ensures { option_map (λ p. (p.0.now, p.1.now)) result

@@ -1,9 +1,9 @@
-//! The parser of bundles. Who reads a bundle (bb_shell) calls `unbundle`.
+//! The parser of bundles. Callers that read a bundle (bb_shell) call `unbundle`.
 //!
-//! A source is `source NAME CLASS RATE` and one or more `when EVENT`; where it has them `require HEX`,
-//! `obviate CLASS HEX` and `retrigger CLASS HEX`, each of the two followed by one or more `when EVENT`, and
-//! `revalidate HEX`, in this order; then `do HEX` or `native`. One space separates two words, and empty lines say
-//! nothing. NAME and CLASS are names, RATE is a whole number of 64 bits, and HEX spells the bytes of a code.
+//! A source is `source NAME CLASS RATE` and one or more `when EVENT`; then, each optional and in this order, `require
+//! HEX`, `obviate CLASS HEX` and `retrigger CLASS HEX`, each of these two followed by one or more `when EVENT`, and
+//! `revalidate HEX`; then `do HEX` or `native`. One space separates two words, and empty lines are ignored. NAME and
+//! CLASS are names, RATE is a 64-bit whole number, and HEX spells the bytes of a code.
 
 ghost use Rattle.std.specs.Prelude.{◌≡◌, ◌+◌, ◌<◌, ◌^◌, map, MatchResult};
 ghost use Rattle.bb_basis.specs.Results.{Gives, map_err};
@@ -30,7 +30,7 @@ use hex::FromHexError;
 use std::alloc::Global;
 use std::marker::Model;
 
-// What was read so far: the number of lines, the whole sources, and the one whose act is still to come.
+// What has been read so far: the number of lines, the complete sources, and the source whose act is still to come.
 #[derive(Drop)]
 struct BundleParser {
     lines: u64,
@@ -49,7 +49,7 @@ impl Model for BundleParser {
     ghost view = { λ p. record { lines = p.lines; sources = p.sources.items; partial = p.partial } };
 }
 
-// The bytes that hex digits of either case spell.
+// Returns the bytes that hex digits of either case spell.
 fn decode_hex(alloc: Global, line: u64, digits: &str) -> Result<Vec<u8>, BundleFault>
     ensures { Gives OutOfMemory (λ bs. bs.items) result (map_err (λ _. NoHex line) (decode_of digits.now)) }
 {
@@ -60,7 +60,7 @@ fn decode_hex(alloc: Global, line: u64, digits: &str) -> Result<Vec<u8>, BundleF
     }
 }
 
-// The code that bytes spell.
+// Returns the code that bytes spell.
 fn decode_code(alloc: Global, line: u64, bytes: &[u8]) -> Result<Code, BundleFault>
     ensures { Gives OutOfMemory (λ c. c) result (map_err (λ fault. NoCode line fault) (code_of bytes.now)) }
 {
@@ -71,7 +71,7 @@ fn decode_code(alloc: Global, line: u64, bytes: &[u8]) -> Result<Code, BundleFau
     }
 }
 
-// The code that hex digits spell.
+// Returns the code that hex digits spell.
 #[tactic(auto, unfolding(crate::specs::Bundle::code_in))]
 fn decode_digits(alloc: Global, line: u64, digits: &str) -> Result<Code, BundleFault>
     ensures { Gives OutOfMemory (λ c. c) result (code_in line digits.now) }
@@ -80,7 +80,7 @@ fn decode_digits(alloc: Global, line: u64, digits: &str) -> Result<Code, BundleF
     decode_code(alloc, line, &bytes)
 }
 
-// `HEX`: the code.
+// Reads `HEX` and returns the code.
 #[tactic(auto, unfolding(crate::specs::Bundle::code_of_words))]
 fn read_code(alloc: Global, line: u64, words: &[&str]) -> Result<Code, BundleFault>
     ensures { Gives OutOfMemory (λ c. c) result (code_of_words line (map (λ w. w.now) words.now)) }
@@ -89,7 +89,7 @@ fn read_code(alloc: Global, line: u64, words: &[&str]) -> Result<Code, BundleFau
     decode_digits(alloc, line, digits)
 }
 
-// `CLASS HEX`: a reaction whose clauses are still to come.
+// Reads `CLASS HEX` and returns a reaction without clauses.
 #[tactic(auto, unfolding(crate::specs::Bundle::reaction_of_words))]
 fn read_reaction(
     alloc: Global,
@@ -118,14 +118,14 @@ impl BundleParser {
         }
     }
 
-    // A source whose act is still to come.
+    // Keeps a source whose act is still to come.
     fn begin(&mut self, source: PartialSource)
         ensures { self.new ≡ with_source self.old source }
     {
         self.partial = Some(source);
     }
 
-    // The source that an act completes.
+    // Completes a source with its act.
     #[tactic(auto, unfolding(crate::specs::Bundle::with_whole))]
     fn complete(&mut self, source: PartialSource, act: ActDraft<Code>) -> Result<(), BundleFault>
         ensures { Gives OutOfMemory (λ _. self.new) result (with_whole self.old source act) }
@@ -136,7 +136,7 @@ impl BundleParser {
         Ok(())
     }
 
-    // The first line of a source.
+    // Reads the first line of a source.
     #[tactic(auto, unfolding(crate::specs::Bundle::after_first))]
     fn read_first(&mut self, alloc: Global, words: &[&str]) -> Result<(), BundleFault>
         ensures { Gives OutOfMemory (λ _. self.new) result (after_first self.old (map (λ w. w.now) words.now)) }
@@ -148,7 +148,7 @@ impl BundleParser {
         Ok(())
     }
 
-    // One more clause.
+    // Reads a clause.
     #[tactic(auto, unfolding(crate::specs::Bundle::after_when))]
     fn read_when(
         &mut self,
@@ -166,7 +166,7 @@ impl BundleParser {
         Ok(())
     }
 
-    // The act is a code.
+    // Reads an act that is a code.
     #[tactic(auto, unfolding(crate::specs::Bundle::after_do))]
     fn read_do(
         &mut self,
@@ -181,7 +181,7 @@ impl BundleParser {
         self.complete(source, ActDraft::Do(code))
     }
 
-    // The act is a native.
+    // Reads an act that is a native.
     #[tactic(auto, unfolding(crate::specs::Bundle::after_native))]
     fn read_native(&mut self, source: PartialSource, words: &[&str]) -> Result<(), BundleFault>
         ensures { Gives OutOfMemory (λ _. self.new) result
@@ -193,7 +193,7 @@ impl BundleParser {
         self.complete(source, ActDraft::Native)
     }
 
-    // `require HEX`
+    // Reads `require HEX`, after the keyword.
     #[tactic(auto, unfolding(crate::specs::Bundle::after_require))]
     fn read_require(
         &mut self,
@@ -210,7 +210,7 @@ impl BundleParser {
         Ok(())
     }
 
-    // `obviate CLASS HEX`
+    // Reads `obviate CLASS HEX`, after the keyword.
     #[tactic(auto, unfolding(crate::specs::Bundle::after_obviate))]
     fn read_obviate(
         &mut self,
@@ -227,7 +227,7 @@ impl BundleParser {
         Ok(())
     }
 
-    // `retrigger CLASS HEX`
+    // Reads `retrigger CLASS HEX`, after the keyword.
     #[tactic(auto, unfolding(crate::specs::Bundle::after_retrigger))]
     fn read_retrigger(
         &mut self,
@@ -244,7 +244,7 @@ impl BundleParser {
         Ok(())
     }
 
-    // `revalidate HEX`
+    // Reads `revalidate HEX`, after the keyword.
     #[tactic(auto, unfolding(crate::specs::Bundle::after_revalidate))]
     fn read_revalidate(
         &mut self,
@@ -261,7 +261,7 @@ impl BundleParser {
         Ok(())
     }
 
-    // A further line of a source, which may come next.
+    // Reads the rest of a line whose keyword may come next.
     #[tactic(auto, unfolding(crate::specs::Bundle::after_keyword))]
     fn read_part(
         &mut self,
@@ -284,7 +284,7 @@ impl BundleParser {
         }
     }
 
-    // A further line of a source.
+    // Reads a line of a source after its first.
     #[tactic(auto, unfolding(crate::specs::Bundle::after_further))]
     fn read_further(
         &mut self,
@@ -322,7 +322,7 @@ impl BundleParser {
         }
     }
 
-    // The sources, where none is partial.
+    // Returns the sources, if none is incomplete.
     fn finish(self) -> Result<Vec<SourceCode>, BundleFault>
         requires { self.lines + 1 < 2 ^ 64 }
         ensures { MatchResult result (λ v. at_end self ≡ Ok v.items) (λ e. at_end self ≡ Err e) }
@@ -339,7 +339,7 @@ impl BundleParser {
     }
 }
 
-/// Returns the sources of a bundle in its order, or the first fault from the top. `Memory` may come at any point.
+/// Returns the sources of a bundle, in its order, or the first fault from the top. `Memory` may occur at any point.
 #[tactic(auto, unfolding(crate::specs::Bundle::sources_of))]
 pub fn unbundle(alloc: Global, text: &str) -> Result<Vec<SourceCode>, BundleFault>
     ensures { Gives OutOfMemory (λ v. v.items) result (sources_of text.now) }

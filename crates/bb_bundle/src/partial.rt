@@ -1,4 +1,4 @@
-//! What was read so far of a source whose act is still to come. The parser of bundles makes it and completes it.
+//! A source that has been read up to, but without, its act. The parser of bundles makes and completes it.
 
 ghost use Rattle.std.specs.Prelude.{◌≡◌, OnOk};
 ghost use Rattle.bb_bundle.specs.Partial.{has_clause, has_clauses, takes_clause, before_revalidate, before_retrigger};
@@ -10,7 +10,8 @@ use bb_code::Code;
 use bb_lang_tree::ClauseText;
 use std::alloc::AllocError;
 
-/// What was read so far of a source. A part that is there was begun, and the last of them may get more clauses.
+/// What has been read of a source so far. Its parts are those whose line was read; the last of them that has clauses
+/// may get more.
 #[derive(Drop)]
 pub(crate) struct PartialSource {
     pub(crate) header: Header,
@@ -27,7 +28,7 @@ fn has_clause(reaction: &Option<ReactionDraft<Code>>) -> bool
 }
 
 impl PartialSource {
-    // Whether each list of clauses that was begun has one.
+    // Returns whether each list of clauses that was begun has at least one clause.
     #[tactic(auto, unfolding(crate::specs::Partial::has_clauses))]
     fn has_clauses(&self) -> bool
         ensures { result ≡ has_clauses self.now }
@@ -37,7 +38,7 @@ impl PartialSource {
             && has_clause(&self.parts.retrigger)
     }
 
-    // Whether the part that was begun last has clauses.
+    // Returns whether the part that was begun last has clauses.
     #[tactic(auto, unfolding(crate::specs::Partial::takes_clause))]
     fn takes_clause(&self) -> bool
         ensures { result ≡ takes_clause self.now }
@@ -48,35 +49,35 @@ impl PartialSource {
                 || self.parts.retrigger.is_some())
     }
 
-    // Whether `revalidate` may still come.
+    // Returns whether `revalidate` may still come.
     fn before_revalidate(&self) -> bool
         ensures { result ≡ before_revalidate self.now }
     {
         self.has_clauses() && self.parts.revalidate.is_none()
     }
 
-    // Whether `retrigger` may still come.
+    // Returns whether `retrigger` may still come.
     fn before_retrigger(&self) -> bool
         ensures { result ≡ before_retrigger self.now }
     {
         self.before_revalidate() && self.parts.retrigger.is_none()
     }
 
-    // Whether `obviate` may still come.
+    // Returns whether `obviate` may still come.
     fn before_obviate(&self) -> bool
         ensures { result ≡ before_obviate self.now }
     {
         self.before_retrigger() && self.parts.obviate.is_none()
     }
 
-    // Whether `require` may still come.
+    // Returns whether `require` may still come.
     fn before_require(&self) -> bool
         ensures { result ≡ before_require self.now }
     {
         self.before_obviate() && self.parts.require.is_none()
     }
 
-    /// Whether a line with this keyword may come next.
+    /// Returns whether a line with this keyword may come next.
     #[tactic(auto, unfolding(crate::specs::Partial::may_come))]
     pub(crate) fn may_come(&self, keyword: Keyword) -> bool
         ensures { result ≡ may_come self.now keyword }
@@ -92,7 +93,7 @@ impl PartialSource {
         }
     }
 
-    /// One more clause for the part that was begun last.
+    /// Adds a clause to the part that was begun last.
     #[tactic(auto, unfolding(crate::specs::Partial::with_clause))]
     pub(crate) fn add_clause(&mut self, clause: ClauseText) -> Result<(), AllocError>
         ensures { OnOk result (self.new ≡ with_clause self.old clause) }
@@ -106,7 +107,7 @@ impl PartialSource {
         self.header.triggers.push(clause)
     }
 
-    /// The source that an act completes.
+    /// Completes the source with its act.
     pub(crate) fn with_act(self, act: ActDraft<Code>) -> SourceDraft<Code>
         ensures { result ≡ with_act self act }
     {

@@ -1,13 +1,13 @@
-//! A rate from its digits. The line of a header calls it.
+//! Reads a rate. The reader of a source's first line calls it.
 
 ghost use Rattle.std.specs.Prelude.{◌≡◌};
 ghost use Rattle.bb_bundle.specs.Rate.{rate_of};
 
-/// The number that an optional `-` and digits write, if it fits.
+/// Returns the number that an optional `-` and digits spell, if it fits in an `i64`.
 pub(crate) fn rate_of(word: &str) -> Option<i64>
     ensures { result ≡ rate_of word.now }
 {
-    // `parse` reads a `+` too.
+    // `parse` accepts a `+` too.
     if word.starts_with('+') {
         return None;
     }

@@ -1,6 +1,5 @@
-//! A source whose names are texts that are not looked up yet, which a bundle can spell: `SourceCode`. `unbundle` and
-//! the compiler (bb_compile) make it, and `bundle` writes it; bb_shell has its codes verified, and bb_rules looks its
-//! names up.
+//! `SourceCode`: a source that a bundle can spell. Its names are texts, not looked up yet. `unbundle` and the compiler
+//! (bb_compile) make it, and `bundle` writes it; bb_shell has its codes verified, and bb_rules looks up its names.
 
 ghost use Rattle.std.specs.Prelude.{◌≡◌};
 ghost use Rattle.bb_bundle.specs.Spelled.{IsSpelled, if_spelled};
@@ -10,7 +9,7 @@ use crate::spelled::is_spelled;
 use bb_code::Code;
 use std::marker::Model;
 
-/// A source as a bundle can spell it: all names are names, and it has a trigger, as each reaction has a clause.
+/// A source that a bundle can spell: all names are valid, it has a trigger, and each reaction has a clause.
 #[derive(Drop)]
 pub struct SourceCode {
     draft: SourceDraft<Code>,
@@ -34,7 +33,7 @@ impl Model for SourceCode {
 }
 
 impl SourceCode {
-    /// The source of a draft, if a bundle can spell it.
+    /// Makes a source of a draft. `None`: a bundle cannot spell it.
     pub fn new(draft: SourceDraft<Code>) -> Option<SourceCode>
         ensures { result ≡ if_spelled draft }
     {
@@ -45,7 +44,7 @@ impl SourceCode {
         }
     }
 
-    /// The parts of the source.
+    /// Returns the draft.
     pub fn draft(&self) -> &SourceDraft<Code>
         ensures value { result.now ≡ self.now }
         ensures spelled { IsSpelled self.now }
@@ -53,7 +52,7 @@ impl SourceCode {
         &self.draft
     }
 
-    /// The parts of the source, to be used without a copy.
+    /// Returns the draft, without copying it.
     pub fn into_draft(self) -> SourceDraft<Code>
         ensures value { result ≡ self }
         ensures spelled { IsSpelled self }

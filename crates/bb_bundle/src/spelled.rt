@@ -1,4 +1,4 @@
-//! Which sources a bundle can spell: their names are names, and each list of clauses has one. `SourceCode` calls it.
+//! Which sources a bundle can spell: all names are valid, and no list of clauses is empty. `SourceCode` calls it.
 
 ghost use Rattle.std.specs.Prelude.{◌≡◌};
 ghost use Rattle.std.specs.List.{list_all};
@@ -52,7 +52,7 @@ fn is_reaction(reaction: &Option<ReactionDraft<Code>>) -> bool
     }
 }
 
-/// Whether a bundle can spell the source.
+/// Returns whether a bundle can spell the source.
 #[tactic(auto, unfolding(crate::specs::Spelled::is_spelled))]
 pub(crate) fn is_spelled(draft: &SourceDraft<Code>) -> bool
     ensures { result ≡ is_spelled draft.now }

@@ -1,4 +1,4 @@
-//! The text of a bundle. Who writes a bundle calls `bundle`, and `unbundle` reads it again.
+//! The writer of bundles. Callers that write a bundle call `bundle`; `unbundle` reads the text again.
 
 ghost use Rattle.std.specs.Prelude.{◌≡◌, ◌++◌, ◌∷◌, [], map, All, IfOk, OnOk, string_bytes};
 ghost use Rattle.hex.specs.Hex.{IsBytes, encode_lower};
@@ -66,7 +66,7 @@ fn put_clauses(out: &mut String, clauses: &[ClauseText]) -> Result<(), AllocErro
     Ok(())
 }
 
-// The hex digits of bytes.
+// Returns bytes as hex digits.
 fn hex_of(alloc: Global, bytes: &[u8]) -> Result<String, AllocError>
     ensures digits { IfOk result (λ digits. string_bytes digits ≡ encode_lower bytes.now) }
     ensures bytes { IsBytes bytes.now }
@@ -74,18 +74,18 @@ fn hex_of(alloc: Global, bytes: &[u8]) -> Result<String, AllocError>
     hex::encode(alloc, bytes)
 }
 
-// The hex digits of a code.
+// Returns a code as hex digits.
 fn digits_of(alloc: Global, code: &Code) -> Result<String, AllocError>
     ensures digits { IfOk result (λ digits. string_bytes digits ≡ code_digits code.now) }
     ensures again { OnOk result (IsAgain code.now) }
 {
-    // A code says with its ops that it is within its limits.
+    // For the proof: that the code is within its limits.
     let _ops = code.ops();
     let bytes = code.encode(alloc)?;
     hex_of(alloc, bytes.as_slice())
 }
 
-// A part that is a code alone.
+// Writes a part that consists of a code only.
 #[tactic(auto, unfolding(crate::specs::Written::text_of))]
 fn put_code(
     alloc: Global,
@@ -171,8 +171,8 @@ fn put_source(alloc: Global, out: &mut String, source: &SourceCode) -> Result<()
     put_draft(alloc, out, source.draft())
 }
 
-/// The text of sources, which `unbundle` reads again: lines that end with a line feed, and hex digits in lower case. An
-/// `Err` says that memory ran out.
+/// Returns the text of sources, which `unbundle` reads again: each line ends with a line feed, and hex digits are lower
+/// case. Fails only if memory runs out.
 #[tactic(auto, unfolding(crate::specs::Written::bundle_text))]
 pub fn bundle(alloc: Global, sources: &[SourceCode]) -> Result<String, AllocError>
     ensures written { IfOk result (λ text. string_bytes text ≡ bundle_text sources.now) }

@@ -1,4 +1,4 @@
--- What a call does to a run that is held.
+-- What a call does to a held run.
 use Rattle.std.specs.Str.Lines.{lines}
 use Rattle.std.specs.Prelude.{◌≡◌, ◌⊎◌, ◌++◌, ◌∷◌, [], ◌≤◌, ℕ, ℤ, Bool, not, ◌==◌, IsSome, List, drop, length, min, take, Option, Some, None}
 use Rattle.bb_c_run.specs.Ask.{Ask}
@@ -14,7 +14,7 @@ use Rattle.bb_c_run.specs.Value.{Value}
 use Rattle.bb_c_run.specs.Meaning.{Meaning}
 use Rattle.bb_c.specs.declared.status.TheConstants.{OK, DUE, GOING, FULL, MEMORY, MISUSE, REFUSED}
 
--- the status that says how a run stands
+-- the status that reports the state of a run
 abbrev pub status_of : Stands → ℕ
 status_of stand.Resting = OK
 status_of stand.Going = GOING
@@ -23,7 +23,7 @@ status_of stand.Full = FULL
 status_of stand.Memory = MEMORY
 status_of stand.Finished = MISUSE
 
--- the run of an input was begun, and the status says how it stands; or the input is refused, or memory ran out
+-- the run of an input was begun, and the status is its state; or the input is refused, or memory ran out
 abbrev pub Begun : (input natives : List ℕ) → (floor : ℤ) → Option Held → (status : ℕ) → Type 0
 Begun input natives floor None status =
     ((status ≡ REFUSED) × (meaning_of input (lines natives) floor ≡ None)) ⊎ (status ≡ MEMORY)
@@ -36,7 +36,7 @@ abbrev pub Opens : (old new : Option Held) → (input natives : List ℕ) → (f
 Opens (Some h) new input natives floor status = (new ≡ Some h) × (status ≡ MISUSE)
 Opens None new input natives floor status = Begun input natives floor new status
 
--- the move was made of what is held, the status says how the run stands, and as many asks are gathered as before
+-- the move was made, the status is the state of the run, and the gathered asks are unchanged
 abbrev pub Turns : Move → Held → Option Held → (status : ℕ) → Type 0
 Turns m h None status = ⊥
 Turns m h (Some k) status =
@@ -48,7 +48,7 @@ abbrev pub Calls : Move → (old new : Option Held) → (status : ℕ) → Type 
 Calls m None new status = (new ≡ None) × (status ≡ MISUSE)
 Calls m (Some h) new status = Turns m h new status
 
--- the asks that were gathered went into a move, and none are gathered any more
+-- the gathered asks went into a move, and none are gathered any more
 abbrev pub Tells : (List Ask → Move) → Held → Option Held → (status : ℕ) → Type 0
 Tells of h None status = ⊥
 Tells of h (Some k) status =
@@ -59,7 +59,7 @@ abbrev pub Applies : (List Ask → Move) → (old new : Option Held) → (status
 Applies of None new status = (new ≡ None) × (status ≡ MISUSE)
 Applies of (Some h) new status = Tells of h new status
 
--- the run was ended, and the status says how; what it told can be read. Or a native is due
+-- the run was ended, the status tells how, and what it emitted can be read; or a native is due
 abbrev pub Ended : Held → Option Held → (status : ℕ) → Type 0
 Ended h None status = ⊥
 Ended h (Some k) status =
@@ -70,12 +70,12 @@ abbrev pub Finishes : (old new : Option Held) → (status : ℕ) → Type 0
 Finishes None new status = (new ≡ None) × (status ≡ MISUSE)
 Finishes (Some h) new status = Ended h new status
 
--- nothing but the asks changed, and these are gathered now
+-- only the gathered asks changed, to these
 abbrev pub HasAsks : List Ask → Held → Option Held → Type 0
 HasAsks asks h None = ⊥
 HasAsks asks h (Some k) = (k.asks.items ≡ asks) × (k.running ≡ h.running) × (k.trace ≡ h.trace)
 
--- an ask was gathered behind the others, or none was, and the status says why
+-- an ask was gathered after the others; or none was, because memory ran out
 abbrev pub Gathered : Ask → Held → Option Held → (status : ℕ) → Type 0
 Gathered ask h new status =
     ((status ≡ OK) × HasAsks (h.asks.items ++ ask ∷ []) h new) ⊎ ((status ≡ MEMORY) × HasAsks h.asks.items h new)
@@ -84,16 +84,16 @@ abbrev pub Gathers : Ask → (old new : Option Held) → (status : ℕ) → Type
 Gathers ask None new status = (new ≡ None) × (status ≡ MISUSE)
 Gathers ask (Some h) new status = Gathered ask h new status
 
--- the status of what is refused, as it isn't right
+-- the status of a refusal, because what was passed is not right
 abbrev pub IsRefused : (is_right : Type 0) → (status : ℕ) → Type 0
 IsRefused is_right status = (status ≡ REFUSED) × ¬ is_right
 
--- an ask of what was passed: it is gathered; or nothing changed, as it is refused or for want of memory
+-- an ask with these arguments: it is gathered; or nothing changed, because it is refused or memory ran out
 abbrev pub Asks : (is_right : Type 0) → Ask → (old new : Option Held) → (status : ℕ) → Type 0
 Asks is_right ask old new status =
     (is_right × Gathers ask old new status) ⊎ ((new ≡ old) × ((status ≡ MEMORY) ⊎ IsRefused is_right status))
 
--- a label by its names, where the handle's run has it
+-- a label by its names, if the handle's run has it
 abbrev pub label_at : Option Held → (set label : List ℕ) → Option Value
 label_at None set label = None
 label_at (Some h) set label = label_in h.running set label
@@ -103,23 +103,23 @@ abbrev pub IsNoLabel : (is_right : Type 0) → Option Value → Option Held → 
 IsNoLabel is_right label held status =
     IsRefused (is_right × IsSome label) status ⊎ ((status ≡ MISUSE) × (held ≡ None))
 
--- an ask that a slot hold a label
+-- an ask to set a slot to a label
 abbrev pub AsksLabel : (is_right : Type 0) → Option Value → (unit : ℕ) → (slot : List ℕ) → (old new : Option Held)
     → (status : ℕ) → Type 0
 AsksLabel is_right (Some v) unit slot old new status = Asks is_right (Set unit slot v) old new status
 AsksLabel is_right None unit slot old new status =
     (new ≡ old) × ((status ≡ REFUSED) ⊎ ((status ≡ MISUSE) × (old ≡ None)))
 
--- what a number says as a truth value
+-- a number as a truth value
 abbrev pub truth_of : ℕ → Bool
 truth_of n = not (n == 0)
 
--- the asks that were gathered are forgotten
+-- the gathered asks are discarded
 abbrev pub Discards : (old new : Option Held) → (status : ℕ) → Type 0
 Discards None new status = (new ≡ None) × (status ≡ MISUSE)
 Discards (Some h) new status = HasAsks [] h new × (status ≡ OK)
 
--- a front of what was not read yet was read, as long as there is room for, and nothing else changed
+-- a prefix of what was not read yet was read, as long as the buffer allows, and nothing else changed
 abbrev pub Gives : Held → Option Held → (to given : List ℕ) → (len : ℕ) → Type 0
 Gives h None to given len = ⊥
 Gives h (Some k) to given len =
@@ -130,7 +130,7 @@ abbrev pub Reads : (old new : Option Held) → (to given : List ℕ) → (len st
 Reads None new to given len status = (new ≡ None) × (given ≡ to) × (len ≡ 0) × (status ≡ MISUSE)
 Reads (Some h) new to given len status = Gives h new to given len × (status ≡ OK)
 
--- the number that the next new unit gets, or 0
+-- the number of the next new unit, or 0
 abbrev pub next_of : Option Held → ℕ
 next_of None = 0
 next_of (Some h) = next_in h.running

@@ -2,9 +2,9 @@
 pub mod Served
 -- what a handle owns
 pub mod Owned
--- what was taken out of it
+-- what was taken out of a handle
 pub mod Taken
--- what a call does to a run that is held
+-- what a call does to a held run
 pub mod Called
--- what a call that looks at its blackboard returns
+-- what a call that looks up something on its blackboard returns
 pub mod Looked

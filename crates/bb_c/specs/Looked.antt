@@ -1,4 +1,4 @@
--- What a call that looks at a run returns.
+-- What a call that looks up something of a run returns.
 use Rattle.std.specs.Prelude.{◌≡◌, ◌⊎◌, ℕ, Bool, List, length, Option, Some, None, option_and_then}
 use Rattle.std.specs.Str.{IsUtf8}
 use Rattle.bb_c_run.specs.Costs.{creates_in, most_steps_in}
@@ -8,21 +8,21 @@ use Rattle.bb_c_run.specs.declared.held.Held.{Held}
 use Rattle.bb_c.specs.Called.{IsRefused}
 use Rattle.bb_c.specs.declared.status.TheConstants.{OK, NONE, MISUSE}
 
--- what is looked up: it is there, and this came of it; or it isn't, and nothing was done
+-- the item exists, and `came` holds of it; or it does not, and nothing was written
 abbrev pub Comes : {X : Type 0} → Option X → (came : X → Type 0) → (same : Type 0) → (status : ℕ) → Type 0
 Comes (Some x) came same status = came x × (status ≡ OK)
 Comes None came same status = same × (status ≡ NONE)
 
--- a look at what a handle holds
+-- a lookup in what a handle holds
 abbrev pub Looks : {X : Type 0} → Option Held → (Held → Option X) → (came : X → Type 0) → (same : Type 0) → (status : ℕ) → Type 0
 Looks None find came same status = same × (status ≡ MISUSE)
 Looks (Some h) find came same status = Comes (find h) came same status
 
--- a name that was passed is a text, and this came of it; or it is refused, and nothing was done
+-- the name is UTF-8, and `came` holds; or it is refused, and nothing was written
 abbrev pub IfText : (name : List ℕ) → (came same : Type 0) → (status : ℕ) → Type 0
 IfText name came same status = (IsUtf8 name × came) ⊎ (same × IsRefused (IsUtf8 name) status)
 
--- what a value in a slot is, where it is of a kind
+-- what the value in a slot holds, if it is of a kind
 abbrev pub of_value : {X : Type 0} → (Value → Option X) → (unit : ℕ) → (slot : List ℕ) → Held → Option X
 of_value of unit slot h = option_and_then of (value_at h.running unit slot)
 
@@ -50,6 +50,6 @@ most_steps_of found h = most_steps_in h.running found
 abbrev pub creates_of : Held → Option Bool
 creates_of h = creates_in h.running
 
--- as much of a list as there is room for, and its length
+-- as much of a list as the buffer has room for, and its length
 abbrev pub Fills : (room filled' : List ℕ) → (len : ℕ) → List ℕ → Type 0
 Fills room filled' len found = (filled' ≡ filled found room) × (len ≡ length found)

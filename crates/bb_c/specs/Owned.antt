@@ -18,7 +18,7 @@ chunk = ghosts.dealloc_token (record { memory = record { seal = tt } })
 abbrev pub boxed : (R : RattleType) → Ptr → R.Denot → Fml
 boxed R at x = box_owns chunk R at x
 
--- where it is open, the box at its pointer, and else nothing
+-- if the handle is open, the box at its pointer; else nothing
 abbrev pub run_owns : Bool → Ptr → Option Held → Fml
 run_owns true at (Some t) = boxed the_row at t
 run_owns false at None = ftrue

@@ -1,4 +1,4 @@
-//! The calls that gather asks, which `bb_post` posts and `bb_answer` answers by.
+//! The calls that gather asks. `bb_post` posts them, or `bb_answer` answers with them.
 
 ghost use Rattle.std.specs.Prelude.{◌≡◌, ◌≤ℤ◌, ◌⊎◌, IfOk, IfErr, Some};
 ghost use Rattle.std.specs.Str.{IsUtf8};
@@ -13,7 +13,7 @@ use bb_c_run::{Ask, Text, Value};
 use std::alloc::Global;
 use std::str;
 
-// The text of a name, or the status that refuses it.
+// Returns the text of a name, or the status that refuses it.
 fn text_of(alloc: Global, bytes: &[u8]) -> Result<Text, u8>
     ensures text { IfOk result (λ t. (t ≡ bytes.now) × IsUtf8 bytes.now) }
     ensures refused { IfErr result (λ s. (s ≡ MEMORY) ⊎ IsRefused (IsUtf8 bytes.now) s) }
@@ -42,7 +42,8 @@ fn gather(alloc: Global, run: &mut Run, ask: Ask) -> u8
     }
 }
 
-/// Asks for a new unit of a class. As all calls that ask: returns 0, 2 a name that is no UTF-8, 5 no memory, 9 no run.
+/// Asks for a new unit of a class. Like all calls that ask, it returns 0; 2 if a name is not UTF-8; 5 if memory ran
+/// out; 9 if there is no run.
 #[unsafe(no_mangle)]
 pub extern "C" fn bb_ask_new(alloc: Global, run: &mut Run, class_name: &[u8]) -> u8
     ensures { Asks (IsUtf8 class_name.now) (New class_name.now) run.old.sitting run.new.sitting result }
@@ -53,7 +54,7 @@ pub extern "C" fn bb_ask_new(alloc: Global, run: &mut Run, class_name: &[u8]) ->
     }
 }
 
-// Asks for a value of a slot.
+// Asks to set a slot to a value.
 fn ask_set(alloc: Global, run: &mut Run, unit: u64, slot: &[u8], value: Value) -> u8
     ensures { Asks (IsUtf8 slot.now) (Set unit slot.now value) run.old.sitting run.new.sitting result }
 {
@@ -63,7 +64,7 @@ fn ask_set(alloc: Global, run: &mut Run, unit: u64, slot: &[u8], value: Value) -
     }
 }
 
-/// Asks for a number in a slot of a unit.
+/// Asks to set a slot of a unit to a number.
 #[unsafe(no_mangle)]
 pub extern "C" fn bb_ask_int(alloc: Global, run: &mut Run, unit: u64, slot: &[u8], value: i64) -> u8
     ensures { Asks (IsUtf8 slot.now) (Set unit slot.now (of_int value)) run.old.sitting run.new.sitting result }
@@ -71,7 +72,7 @@ pub extern "C" fn bb_ask_int(alloc: Global, run: &mut Run, unit: u64, slot: &[u8
     ask_set(alloc, run, unit, slot, Value::Int(value))
 }
 
-/// Asks for a truth value in a slot of a unit: false for 0.
+/// Asks to set a slot of a unit to a truth value, false for 0.
 #[unsafe(no_mangle)]
 pub extern "C" fn bb_ask_bool(alloc: Global, run: &mut Run, unit: u64, slot: &[u8], value: u8) -> u8
     ensures { Asks (IsUtf8 slot.now) (Set unit slot.now (of_bool (truth_of value)))
@@ -80,7 +81,7 @@ pub extern "C" fn bb_ask_bool(alloc: Global, run: &mut Run, unit: u64, slot: &[u
     ask_set(alloc, run, unit, slot, Value::Bool(value != 0))
 }
 
-/// Asks for an interval in a slot of a unit. One that ends before it begins is refused with 2.
+/// Asks to set a slot of a unit to an interval. Returns 2 if `high` is below `low`.
 #[unsafe(no_mangle)]
 pub extern "C" fn bb_ask_interval(
     alloc: Global,
@@ -99,7 +100,7 @@ pub extern "C" fn bb_ask_interval(
     ask_set(alloc, run, unit, slot, Value::Interval(low, high))
 }
 
-/// Asks for a text in a slot of a unit. One that is no UTF-8 is refused with 2.
+/// Asks to set a slot of a unit to a text. Returns 2 if the text is not UTF-8.
 #[unsafe(no_mangle)]
 pub extern "C" fn bb_ask_text(
     alloc: Global,
@@ -117,7 +118,7 @@ pub extern "C" fn bb_ask_text(
     }
 }
 
-/// Asks for a label in a slot of a unit. One that is none of the set, and a set that is none, are refused with 2.
+/// Asks to set a slot of a unit to a label. Returns 2 if the schema has no such set, or the set no such label.
 #[unsafe(no_mangle)]
 pub extern "C" fn bb_ask_label(
     alloc: Global,
@@ -136,7 +137,7 @@ pub extern "C" fn bb_ask_label(
     }
 }
 
-// A label by the names of its set and of itself, or the status that refuses it.
+// Returns a label by the names of its set and of the label, or the status that refuses it.
 fn label_of(alloc: Global, run: &mut Run, set: &[u8], label: &[u8]) -> Result<Value, u8>
     ensures label { IfOk result (λ v. (label_at run.old.sitting set.now label.now ≡ Some v)
         × IsUtf8 set.now × IsUtf8 label.now) }
@@ -155,7 +156,7 @@ fn label_of(alloc: Global, run: &mut Run, set: &[u8], label: &[u8]) -> Result<Va
     value.ok_or(REFUSED)
 }
 
-/// Asks for a link of a unit to another by a slot.
+/// Asks to link a unit to another by a slot.
 #[unsafe(no_mangle)]
 pub extern "C" fn bb_ask_link(
     alloc: Global,
@@ -172,7 +173,7 @@ pub extern "C" fn bb_ask_link(
     }
 }
 
-/// Asks that a link of a unit to another by a slot goes.
+/// Asks to remove the link of a unit to another by a slot.
 #[unsafe(no_mangle)]
 pub extern "C" fn bb_ask_unlink(
     alloc: Global,
@@ -189,7 +190,7 @@ pub extern "C" fn bb_ask_unlink(
     }
 }
 
-/// Asks that a unit enters a space.
+/// Asks that a unit enter a space.
 #[unsafe(no_mangle)]
 pub extern "C" fn bb_ask_enter(alloc: Global, run: &mut Run, unit: u64, space: &[u8]) -> u8
     ensures { Asks (IsUtf8 space.now) (Enter unit space.now) run.old.sitting run.new.sitting result }
@@ -200,7 +201,7 @@ pub extern "C" fn bb_ask_enter(alloc: Global, run: &mut Run, unit: u64, space: &
     }
 }
 
-/// Asks that a unit leaves a space.
+/// Asks that a unit leave a space.
 #[unsafe(no_mangle)]
 pub extern "C" fn bb_ask_leave(alloc: Global, run: &mut Run, unit: u64, space: &[u8]) -> u8
     ensures { Asks (IsUtf8 space.now) (Leave unit space.now) run.old.sitting run.new.sitting result }
@@ -211,7 +212,7 @@ pub extern "C" fn bb_ask_leave(alloc: Global, run: &mut Run, unit: u64, space: &
     }
 }
 
-/// Asks that a unit is deleted.
+/// Asks to delete a unit.
 #[unsafe(no_mangle)]
 pub extern "C" fn bb_ask_delete(alloc: Global, run: &mut Run, unit: u64) -> u8
     ensures { Gathers (Delete unit) run.old.sitting run.new.sitting result }
@@ -219,7 +220,7 @@ pub extern "C" fn bb_ask_delete(alloc: Global, run: &mut Run, unit: u64) -> u8
     gather(alloc, run, Ask::Delete { unit })
 }
 
-/// Asks that a text is said. One that is no UTF-8 is refused with 2.
+/// Asks to say a text. Returns 2 if the text is not UTF-8.
 #[unsafe(no_mangle)]
 pub extern "C" fn bb_ask_say(alloc: Global, run: &mut Run, text: &[u8]) -> u8
     ensures { Asks (IsUtf8 text.now) (Say text.now) run.old.sitting run.new.sitting result }
@@ -230,7 +231,7 @@ pub extern "C" fn bb_ask_say(alloc: Global, run: &mut Run, text: &[u8]) -> u8
     }
 }
 
-/// Forgets the asks that were gathered since the last post or answer. Returns 0, or 9 if there is no run.
+/// Discards the asks gathered since the last post or answer. Returns 0, or 9 if there is no run.
 #[unsafe(no_mangle)]
 pub extern "C" fn bb_discard(alloc: Global, run: &mut Run) -> u8
     ensures { Discards run.old.sitting run.new.sitting result }

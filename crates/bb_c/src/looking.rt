@@ -1,4 +1,4 @@
-//! The calls that look up what stands on the blackboard of a run.
+//! The calls that look up what is on the blackboard of a run.
 
 ghost use Rattle.std.specs.Prelude.{◌≡◌, ◌⊎◌, if◌then◌else◌};
 ghost use Rattle.bb_c_run.specs.Looking.{interval_of, number_of, text_of, truth_of};
@@ -10,9 +10,9 @@ use crate::status::{MEMORY, MISUSE, NONE, OK, REFUSED, given};
 use std::alloc::Global;
 use std::str;
 
-/// The number in an ordinary slot of a unit. As all calls that look something up, it returns 0; 1 where there is no such
-/// unit or slot, or it holds something else; 2 where the name is no UTF-8; or 9 where there is no run. At another number
-/// than 0 nothing is written. Of a run that was finished there are no units.
+/// Writes the number in an ordinary slot of a unit to `value`. Like all calls that look something up, it returns 0; 1
+/// if there is no such unit or slot, or the slot holds something else; 2 if the name is not UTF-8; 9 if there is no
+/// run. It writes only if it returns 0. A finished run has no units.
 #[unsafe(no_mangle)]
 pub extern "C" fn bb_int(
     alloc: Global,
@@ -38,7 +38,7 @@ pub extern "C" fn bb_int(
     given(found, value)
 }
 
-/// The truth value in an ordinary slot of a unit: 1 or 0.
+/// Writes the truth value in an ordinary slot of a unit to `value`, as 1 or 0.
 #[unsafe(no_mangle)]
 pub extern "C" fn bb_bool(
     alloc: Global,
@@ -64,7 +64,7 @@ pub extern "C" fn bb_bool(
     given(found.map(u8::from), value)
 }
 
-/// The first and the last number of the interval in an ordinary slot of a unit.
+/// Writes the first and last number of the interval in an ordinary slot of a unit to `low` and `high`.
 #[unsafe(no_mangle)]
 pub extern "C" fn bb_interval(
     alloc: Global,
@@ -98,7 +98,7 @@ pub extern "C" fn bb_interval(
     }
 }
 
-/// The text in an ordinary slot of a unit: as much as there is room for, and the number of its bytes.
+/// Writes as much of the text in an ordinary slot of a unit as `to` has room for, and the number of bytes of the text.
 #[unsafe(no_mangle)]
 pub extern "C" fn bb_text(
     alloc: Global,
@@ -125,7 +125,8 @@ pub extern "C" fn bb_text(
     given(found, len)
 }
 
-/// The name of the label in an ordinary slot of a unit: as much as there is room for, and the number of its bytes.
+/// Writes as much of the name of the label in an ordinary slot of a unit as `to` has room for, and the number of bytes
+/// of the name.
 #[unsafe(no_mangle)]
 pub extern "C" fn bb_label(
     alloc: Global,
@@ -152,7 +153,7 @@ pub extern "C" fn bb_label(
     given(found, len)
 }
 
-/// The name of the class of a unit: as much as there is room for, and the number of its bytes.
+/// Writes as much of the name of a unit's class as `to` has room for, and the number of bytes of the name.
 #[unsafe(no_mangle)]
 pub extern "C" fn bb_class(
     alloc: Global,
@@ -174,8 +175,8 @@ pub extern "C" fn bb_class(
     given(found, len)
 }
 
-/// The partners of a unit by a link slot, in order of addition: as many as there is room for, and their number. By an
-/// ordinary slot there are none. Returns 5 where there is no memory.
+/// Writes as many partners of a unit by a link slot as `to` has room for, in order of addition, and their number. An
+/// ordinary slot has no partners. Returns 5 if memory ran out.
 #[unsafe(no_mangle)]
 pub extern "C" fn bb_links(
     alloc: Global,

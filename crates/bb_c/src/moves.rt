@@ -1,4 +1,4 @@
-//! The calls that begin a run, move it and end it.
+//! The calls that begin, move and end a run.
 
 ghost use Rattle.std.specs.Prelude.{◌≡◌, None};
 ghost use Rattle.bb_c_run.specs.Moves.{advance, answer, one_turn, post};
@@ -11,9 +11,9 @@ use bb_c_run::{Held, OpenFault};
 use std::alloc::Global;
 use std::str;
 
-/// Begins the run of an input, whose sources may act by natives of the names in `natives`, one on each line: for these
-/// the host answers. No activation is rated below `floor`. The handle is none before. Returns how the run stands: 0 it
-/// rests, 3 it goes on, 4 it is full; or 2 the input is refused, or the names are no UTF-8, 5 there is no memory, 9 the
+/// Begins the run of an input, with no activation rated below `floor`. Its sources may act by natives with the names in
+/// `natives`, one on each line, for which the host answers. The handle has to be none. Returns the state of the run: 0
+/// at rest, 3 going, 4 full; or 2 if the input is refused or the names are not UTF-8, 5 if memory ran out, 9 if the
 /// handle has a run already.
 #[unsafe(no_mangle)]
 pub extern "C" fn bb_open(
@@ -32,7 +32,7 @@ pub extern "C" fn bb_open(
     }
 }
 
-// Begins the run of an input, where the handle has none.
+// Begins the run of an input if the handle has none.
 fn open(alloc: Global, run: &mut Run, input: &[u8], natives: &str, floor: i64) -> u8
     ensures { Opens run.old.sitting run.new.sitting input.now natives.now floor result }
 {
@@ -53,8 +53,8 @@ fn open(alloc: Global, run: &mut Run, input: &[u8], natives: &str, floor: i64) -
     status
 }
 
-/// Makes a cycle, or emits quiescence where nothing can be chosen. Returns how the run stands: 0 it rests, 3 it goes on,
-/// 4 it is full, 8 a native is due, 5 memory ran out, 9 there is no run.
+/// Makes a cycle, or emits quiescence if nothing can be chosen. Returns the state of the run: 0 at rest, 3 going, 4
+/// full, 8 a native is due, 5 memory ran out, 9 there is no run or it is finished.
 #[unsafe(no_mangle)]
 pub extern "C" fn bb_turn(alloc: Global, run: &mut Run) -> u8
     ensures { Calls one_turn run.old.sitting run.new.sitting result }
@@ -67,8 +67,8 @@ pub extern "C" fn bb_turn(alloc: Global, run: &mut Run) -> u8
     status
 }
 
-/// Makes at most so many cycles more, and emits quiescence after them where nothing can be chosen then. Returns how the
-/// run stands, as `bb_turn` does.
+/// Makes up to `cycles` more cycles, then emits quiescence if nothing can be chosen. Returns the state of the run, as
+/// `bb_turn` does.
 #[unsafe(no_mangle)]
 pub extern "C" fn bb_advance(alloc: Global, run: &mut Run, cycles: u32) -> u8
     ensures { Calls (advance cycles) run.old.sitting run.new.sitting result }
@@ -81,7 +81,7 @@ pub extern "C" fn bb_advance(alloc: Global, run: &mut Run, cycles: u32) -> u8
     status
 }
 
-/// Posts the asks that were gathered. Returns how the run stands, as `bb_turn` does.
+/// Posts the gathered asks. Returns the state of the run, as `bb_turn` does.
 #[unsafe(no_mangle)]
 pub extern "C" fn bb_post(alloc: Global, run: &mut Run) -> u8
     ensures { Applies post run.old.sitting run.new.sitting result }
@@ -94,8 +94,8 @@ pub extern "C" fn bb_post(alloc: Global, run: &mut Run) -> u8
     status
 }
 
-/// Answers for the native that is due by the asks that were gathered. Where none is due they are forgotten, and nothing
-/// happens. Returns how the run stands, as `bb_turn` does.
+/// Answers for the native that is due with the gathered asks. If none is due, they are discarded, and nothing else
+/// happens. Returns the state of the run, as `bb_turn` does.
 #[unsafe(no_mangle)]
 pub extern "C" fn bb_answer(alloc: Global, run: &mut Run) -> u8
     ensures { Applies answer run.old.sitting run.new.sitting result }
@@ -108,9 +108,9 @@ pub extern "C" fn bb_answer(alloc: Global, run: &mut Run) -> u8
     status
 }
 
-/// Ends a run: it comes to rest, or to its limit, and then its trace alone can be read. Returns how it ended: 0 by
-/// quiescence, 3 by its limit, 4 full, 5 memory ran out, 9 there is no run; or 8 where a native is due: then the run
-/// goes on as it is.
+/// Ends a run: it comes to rest or to its limit, and afterwards only its trace can be read. Returns how it ended: 0 by
+/// quiescence, 3 by its limit, 4 full, 5 memory ran out, 9 there is no run or it is finished; or 8 if a native is due,
+/// and then the run is unchanged.
 #[unsafe(no_mangle)]
 pub extern "C" fn bb_finish(alloc: Global, run: &mut Run) -> u8
     ensures { Finishes run.old.sitting run.new.sitting result }
@@ -123,7 +123,7 @@ pub extern "C" fn bb_finish(alloc: Global, run: &mut Run) -> u8
     status
 }
 
-/// Closes a run, and gives its memory back. Then the handle is none; on one that is none it does nothing.
+/// Closes a run and frees its memory. The handle is none afterwards. Does nothing if the handle is none.
 #[unsafe(no_mangle)]
 pub extern "C" fn bb_close(alloc: Global, run: &mut Run)
     ensures { run.new.sitting ≡ None }

@@ -1,5 +1,5 @@
-//! The calls that look at a run as a whole: at what is due, at the units of a class, at the whole blackboard, and at what
-//! its sources may cost.
+//! The calls that look up something of a run as a whole: what is due, the units of a class, the whole blackboard, and
+//! what its sources can cost.
 
 ghost use Rattle.std.specs.Prelude.{◌≡◌, ◌⊎◌, if◌then◌else◌};
 ghost use Rattle.bb_c.specs.Looked.{Fills, IfText, Looks, creates_of, document_of, due_of, most_steps_of, units_of};
@@ -10,9 +10,9 @@ use crate::status::{MEMORY, MISUSE, NONE, OK, REFUSED, given};
 use std::alloc::Global;
 use std::str;
 
-/// The unit on which a native is due, and its name: as much as there is room for, and the number of its bytes. As all
-/// calls that look something up, it returns 0; 1 where there is no such thing, here where none is due; or 9 where there
-/// is no run. At another number than 0 nothing is written.
+/// Writes the unit for which a native is due, as much of the native's name as `to` has room for, and the number of
+/// bytes of the name. Like all calls that look something up, it returns 0; 1 if it does not exist, here if no native is
+/// due; or 9 if there is no run. It writes only if it returns 0.
 #[unsafe(no_mangle)]
 pub extern "C" fn bb_due(
     alloc: Global,
@@ -41,8 +41,8 @@ pub extern "C" fn bb_due(
     }
 }
 
-/// The units of a class, and of those below it, rising: as many as there is room for, and how many there are. Returns 2
-/// where the name is no UTF-8, 5 where there is no memory.
+/// Writes as many units of a class and of the classes below it as `to` has room for, ascending, and their number.
+/// Returns 1 if there is no such class, 2 if the name is not UTF-8, 5 if memory ran out.
 #[unsafe(no_mangle)]
 pub extern "C" fn bb_units(
     alloc: Global,
@@ -72,8 +72,8 @@ pub extern "C" fn bb_units(
     }
 }
 
-/// The document of first units of the blackboard: as much as there is room for, and the number of its bytes. Returns 5
-/// where there is no memory.
+/// Writes as much of the blackboard's document of initial units as `to` has room for, and the number of bytes of the
+/// document. Returns 5 if memory ran out.
 #[unsafe(no_mangle)]
 pub extern "C" fn bb_document(alloc: Global, run: &mut Run, to: &mut [u8], len: &mut usize) -> u8
     ensures told { Looks run.old.sitting document_of
@@ -93,8 +93,8 @@ pub extern "C" fn bb_document(alloc: Global, run: &mut Run, to: &mut [u8], len: 
     }
 }
 
-/// The greatest number of steps that an execution of any code of the run's sources can make, where no sequence that it
-/// finds has more than `found` units, up to 2^64 - 1.
+/// Writes the maximum number of steps that an execution of any code of the run's sources can make if no sequence that
+/// it finds has more than `found` units; at most 2^64 - 1.
 #[unsafe(no_mangle)]
 pub extern "C" fn bb_most_steps(alloc: Global, run: &mut Run, found: u32, steps: &mut u64) -> u8
     ensures told { Looks run.old.sitting (most_steps_of found)
@@ -110,7 +110,7 @@ pub extern "C" fn bb_most_steps(alloc: Global, run: &mut Run, found: u32, steps:
     given(found, steps)
 }
 
-/// Whether one of the run's sources has a code that makes a unit: 1 or 0.
+/// Writes whether one of the run's sources has a code that creates a unit: 1 or 0.
 #[unsafe(no_mangle)]
 pub extern "C" fn bb_creates(alloc: Global, run: &mut Run, creates: &mut u8) -> u8
     ensures told { Looks run.old.sitting creates_of

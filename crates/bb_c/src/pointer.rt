@@ -1,4 +1,4 @@
-//! A box of the C library's heap as its pointer.
+//! A box in the C library's heap as its pointer. The handle (run.rt) holds one.
 
 ghost use Rattle.std.specs.Prelude.{◌≡◌};
 
@@ -17,7 +17,7 @@ impl<T> Model for Pointer<T> {
 }
 
 impl<T: Drop> Pointer<T> {
-    /// The pointer of a box, which is not dropped.
+    /// Returns the pointer of a box, which is not dropped.
     pub(crate) fn of(held: Box<T>) -> Pointer<T>
         ensures { result.value ≡ held.value }
     {

@@ -1,4 +1,4 @@
-//! The calls that look at a run.
+//! The calls that read the trace of a run and its counters.
 
 ghost use Rattle.std.specs.Prelude.{◌≡◌};
 ghost use Rattle.bb_c.specs.Called.{Reads, made_of, next_of};
@@ -7,8 +7,8 @@ use crate::run::Run;
 use crate::status::{MISUSE, OK};
 use std::alloc::Global;
 
-/// Reads of the trace what was not read yet, as much as there is room for, and the number of its bytes. Returns 0, or 9
-/// if there is no run.
+/// Reads as much of the unread trace as `to` has room for, and writes the number of bytes read to `len`. Returns 0, or
+/// 9 if there is no run.
 #[unsafe(no_mangle)]
 pub extern "C" fn bb_read(alloc: Global, run: &mut Run, to: &mut [u8], len: &mut usize) -> u8
     ensures { Reads run.old.sitting run.new.sitting to.old to.new len.new result }
@@ -22,7 +22,7 @@ pub extern "C" fn bb_read(alloc: Global, run: &mut Run, to: &mut [u8], len: &mut
     OK
 }
 
-/// The number that the next new unit gets, or 0 if there is no run, or it was finished.
+/// Returns the number of the next new unit, or 0 if there is no run or it is finished.
 #[unsafe(no_mangle)]
 pub extern "C" fn bb_next(alloc: Global, run: &mut Run) -> u64
     ensures next { result ≡ next_of run.old.sitting }
@@ -36,7 +36,7 @@ pub extern "C" fn bb_next(alloc: Global, run: &mut Run) -> u64
     next
 }
 
-/// The number of cycles that were made, or 0 if there is no run, or it was finished.
+/// Returns the number of cycles that were made, or 0 if there is no run or it is finished.
 #[unsafe(no_mangle)]
 pub extern "C" fn bb_made(alloc: Global, run: &mut Run) -> u64
     ensures made { result ≡ made_of run.old.sitting }

@@ -1,4 +1,4 @@
-//! Room for a given number of bytes as an output. `bb_serve` has its answer written there.
+//! A buffer of a given size as an output. `bb_serve` has its answer written there.
 
 ghost use Rattle.std.specs.Prelude.{◌≡◌, ◌≤◌, ◌-◌, [], false, length, drop, take, IfOk};
 
@@ -14,7 +14,7 @@ pub(crate) struct Room {
 }
 
 impl Room {
-    /// Room for `limit` bytes.
+    /// Makes an output for `limit` bytes.
     pub(crate) fn new(alloc: Global, limit: usize) -> Result<Room, Memory>
         ensures empty { IfOk result (λ r. r.bytes.items ≡ []) }
         ensures limit { IfOk result (λ r. r.limit ≡ limit) }
@@ -27,7 +27,7 @@ impl Room {
         })
     }
 
-    /// The bytes that were taken.
+    /// Returns the bytes that were taken.
     pub(crate) fn bytes(&self) -> &[u8]
         ensures { result.now ≡ self.now.bytes.items }
     {

@@ -1,4 +1,4 @@
-//! The handle by which a host in C holds a run. The calls take the run out of it and put it back.
+//! The handle of a run held by a host in C. The calls take the run out of it and put it back.
 
 ghost use Rattle.std.specs.Prelude.{◌≡◌, Option, Some, None};
 ghost use Rattle.bb_c_run.specs.declared.held.Held.{Held as Sits};
@@ -10,8 +10,8 @@ use bb_c_run::Held;
 use std::alloc::Global;
 use std::marker::Model;
 
-/// A run that a host in C holds, or none: `bb_run` of `include/bb.h`. `at` is a box of the C library's heap, seen as
-/// bytes.
+/// A run that a host in C holds, or none: `bb_run` of `include/bb.h`. `at` points to a box in the C library's heap,
+/// seen as bytes.
 #[repr(C)]
 pub struct Run {
     at: *mut u8,
@@ -26,7 +26,7 @@ impl Model for Run {
 }
 
 impl Run {
-    /// Takes the run that is held. Then none is.
+    /// Takes out the run. Nothing is held afterwards.
     pub(crate) fn take(&mut self, alloc: Global) -> Option<Box<Held>>
         ensures taken { in_box result ≡ self.old.sitting }
         ensures none { self.new.sitting ≡ None }
@@ -39,7 +39,7 @@ impl Run {
         Some(held)
     }
 
-    /// Holds a run, where none was held.
+    /// Holds a run. Nothing may be held before.
     pub(crate) fn put(&mut self, held: Box<Held>)
         requires { self.old.sitting ≡ None }
         ensures { self.new.sitting ≡ Some held.value }
@@ -47,7 +47,7 @@ impl Run {
         self.put_pointer(Pointer::of(held));
     }
 
-    // Holds the run behind a pointer, where none was held.
+    // Holds the run at a pointer. Nothing may be held before.
     fn put_pointer(&mut self, held: Pointer<Held>)
         requires { self.old.sitting ≡ None }
         ensures { self.new.sitting ≡ Some held.value }

@@ -1,4 +1,4 @@
-//! The calls of the library.
+//! The call that serves a whole input, and the version of the calls.
 
 ghost use Rattle.std.specs.Prelude.{◌≡◌, ◌≤◌, [], map, min, length, take};
 ghost use Rattle.bb_c.specs.Served.{IsLonger, IsServed, mode_of};
@@ -9,19 +9,19 @@ use crate::room::Room;
 use bb_main::{Mode, NativeSource, ProgramNative, serve};
 use std::alloc::Global;
 
-// The version of these calls. It rises when one changes its meaning.
+// The version of these calls. It is increased when the meaning of a call changes.
 const VERSION: u32 = 2;
 
-// The status of a refused input, and of a number that is no mode.
+// The status of a refused input, and of a number that is not a mode.
 const REFUSED: u8 = 2;
 
 // The status if memory ran out.
 const MEMORY: u8 = 5;
 
-// The status if the room was too small.
+// The status if the output is too small.
 const ROOM: u8 = 6;
 
-/// The version of these calls.
+/// Returns the version of these calls.
 #[unsafe(no_mangle)]
 pub extern "C" fn bb_version() -> u32
     ensures { result ≡ VERSION }
@@ -29,10 +29,11 @@ pub extern "C" fn bb_version() -> u32
     VERSION
 }
 
-/// Serves an input as the program does, with no natives: mode 0 runs it, 1 checks it, 2 compiles it. What the program
-/// would write goes into `output`, as far as there is room, and the number of its bytes into `written`. Returns the
-/// status: 0 quiescence, a check or a bundle written, 2 a refused input or no such mode, 3 the limit, 4 full, 5 no
-/// memory, 6 the answer is longer than the output, which is filled by a front of it.
+/// Serves an input as the program does, without natives. Modes: 0 run, 1 check, 2 compile, 3 run and write the units
+/// that are left. Writes what the program would write to `output`, as far as there is room, and its number of bytes to
+/// `written`. Returns the status: 0 quiescence, or a check or bundle written; 2 the input is refused, or there is no
+/// such mode; 3 the limit; 4 full; 5 memory ran out; 6 the answer is longer than the output, which holds a prefix of
+/// it.
 #[unsafe(no_mangle)]
 pub extern "C" fn bb_serve(
     alloc: Global,
@@ -46,7 +47,7 @@ pub extern "C" fn bb_serve(
     ensures served { IsServed (mode_of mode) limit floor input.now (take written.new output.new) result }
     ensures room { written.new ≤ length output.new }
     ensures len { length output.new ≡ length output.old }
-    // The room is too small only for an answer that is longer, and then it is used up.
+    // The output is too small only if the answer is longer, and then it is full.
     ensures longer { result ≡ ROOM → IsLonger (mode_of mode) limit floor input.now (length output.new) }
     ensures filled { result ≡ ROOM → written.new ≡ length output.new }
 {
@@ -54,7 +55,7 @@ pub extern "C" fn bb_serve(
     let Some(mode) = mode_of(mode) else {
         return REFUSED;
     };
-    // One byte more than the output has, to see whether the answer is longer.
+    // One byte more than the output has, to learn whether the answer is longer.
     let Ok(mut room) = Room::new(alloc, output.len() + 1) else {
         return MEMORY;
     };
@@ -69,7 +70,7 @@ pub extern "C" fn bb_serve(
         &mut room,
     );
     let answer = room.bytes();
-    // An output that fails before it is full finds no memory, as this one has its memory from the start.
+    // An output that fails before it is full ran out of memory, but this one has its memory from the start.
     if status == ROOM && answer.len() <= output.len() {
         return MEMORY;
     }
@@ -81,7 +82,7 @@ pub extern "C" fn bb_serve(
     }
 }
 
-// Copies bytes to the front of the output, as many as there is room for, and returns their number.
+// Copies as many bytes to the front of the output as it has room for, and returns their number.
 fn hand_out(bytes: &[u8], output: &mut [u8]) -> usize
     ensures front { take result output.new ≡ take result bytes.now }
     ensures count { result ≡ min (length bytes.now) (length output.new) }

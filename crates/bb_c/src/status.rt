@@ -1,4 +1,4 @@
-//! The statuses of the calls on a run that is held, as `include/bb.h` names them.
+//! The statuses of the calls on a held run, with the names of `include/bb.h`.
 
 ghost use Rattle.std.specs.Prelude.{◌≡◌};
 ghost use Rattle.bb_c.specs.Called.{status_of};
@@ -6,16 +6,16 @@ ghost use Rattle.bb_c.specs.Looked.{Comes};
 
 use bb_c_run::Stands;
 
-/// The call was made; of a move, that the run rests.
+/// The call was made. For a move: the run is at rest.
 pub(crate) const OK: u8 = 0;
 
-/// What is looked up is not there.
+/// What is looked up does not exist.
 pub(crate) const NONE: u8 = 1;
 
 /// The input or a name is refused.
 pub(crate) const REFUSED: u8 = 2;
 
-/// The run goes on.
+/// The run can continue.
 pub(crate) const GOING: u8 = 3;
 
 /// The run is over: its blackboard or its agenda is full.
@@ -30,7 +30,7 @@ pub(crate) const DUE: u8 = 8;
 /// There is no such run: none was begun, or it was finished.
 pub(crate) const MISUSE: u8 = 9;
 
-/// The status that says how a run stands.
+/// Returns the status that reports the state of a run.
 pub(crate) fn status_of(stands: Stands) -> u8
     ensures { result ≡ status_of stands }
 {
@@ -44,7 +44,7 @@ pub(crate) fn status_of(stands: Stands) -> u8
     }
 }
 
-/// Puts what was looked up where the caller wants it, and says whether it is there.
+/// Writes what was looked up to `to`, and returns whether it exists.
 pub(crate) fn given<T: Copy>(found: Option<T>, to: &mut T) -> u8
     ensures { Comes found (λ it. to.new ≡ it) (to.new ≡ to.old) result }
 {

@@ -1,4 +1,4 @@
--- What a host in another language sees of the blackboard of a run that is held.
+-- What a host in another language sees of the blackboard of a held run.
 use Rattle.std.specs.Prelude.{◌++◌, ℕ, ℤ, Bool, false, List, drop, filter, length, slice_get, take, Option, Some, None}
 use Rattle.std.specs.Option.{option_map_or}
 use Rattle.std.specs.Prelude.{option_and_then, option_map}
@@ -15,11 +15,11 @@ use Rattle.bb_shell.specs.Value.{Value}
 use Rattle.bb_shell.specs.Value.TheVariants as values
 use Rattle.bb_c_run.specs.declared.no_native.NoNative.{NoNative}
 
--- the name of the class of a unit, if there is such a unit
+-- the name of a unit's class, if there is such a unit
 abbrev pub class_in : Sight → (unit : ℕ) → Option (List ℕ)
 class_in seen n = option_and_then (λ class. name_of_class seen.schema class) (class_of seen.world.units n)
 
--- the slot of this name that a unit has
+-- the slot of a unit that has this name
 abbrev pub slot_in : Sight → (unit : ℕ) → (name : List ℕ) → Option ℕ
 slot_in seen n name = option_and_then (λ class. slot_named seen.schema class name) (class_of seen.world.units n)
 
@@ -27,11 +27,11 @@ slot_in seen n name = option_and_then (λ class. slot_named seen.schema class na
 abbrev pub value_in : Sight → (unit : ℕ) → (slot : List ℕ) → Option Value
 value_in seen n name = option_and_then (λ slot. value_of seen.world.units n slot) (slot_in seen n name)
 
--- the partners of a unit by a slot, in order of addition; none by one that is no link slot
+-- the partners of a unit by a slot, in order of addition; none by a slot that is not a link slot
 abbrev pub partners_in : Sight → (unit : ℕ) → (slot : List ℕ) → Option (List ℕ)
 partners_in seen n name = option_map (λ slot. ends seen.world.links n slot) (slot_in seen n name)
 
--- what a value is, where it is of this kind
+-- what a value holds, if it is of this kind
 abbrev pub number_of : Value → Option ℤ
 number_of (values.Int z) = Some z
 number_of _ = None
@@ -53,26 +53,26 @@ abbrev pub label_name_of : Sight → Value → Option (List ℕ)
 label_name_of seen (values.Label set label) = name_of_label seen.schema set label
 label_name_of seen _ = None
 
--- a unit is of this class, or of one below it
+-- the unit has this class, or one below it
 abbrev pub is_of : Sight → (class unit : ℕ) → Bool
 is_of seen class n = option_map_or (λ c. descends seen.schema c class) (class_of seen.world.units n) false
 
--- the units of a class and of those below it, rising, if there is such a class
+-- the units of a class and of the classes below it, in ascending number, if there is such a class
 abbrev pub units_of : Sight → (name : List ℕ) → Option (List ℕ)
 units_of seen name = option_map (λ class. filter (is_of seen class) (live_units seen.world.units)) (class_named seen.schema name)
 
--- room into which as much of a list went as it has places
+-- a buffer filled with as much of a list as it has places for
 abbrev pub filled : {X : Type 0} → List X → (room : List X) → List X
 filled found room = take (length room) found ++ drop (length found) room
 
--- the same of a list that may not be there
+-- the same for a list that may be missing
 abbrev pub filled_if : {X : Type 0} → Option (List X) → (room : List X) → List X
 filled_if None room = room
 filled_if (Some found) room = filled found room
 
 -- ---- of a run
 
--- what can be seen of it, until it was finished
+-- what can be seen of it, until it is finished
 abbrev pub sight_in : {b : _} → Option (Running NoNative b) → Option Sight
 sight_in None = None
 sight_in (Some r) = Some (sight_of r.state.board)
@@ -97,7 +97,7 @@ document_at r = option_map units_text (sight_in r)
 
 -- ---- what is due
 
--- the unit on which a native is due, and its name, which is that of its source
+-- the unit for which a native is due, and the native's name, which is its source's
 abbrev pub due_by : Plan → Pause → Option (ℕ × List ℕ)
 due_by plan (Due a) = option_map (λ source. (a.unit, source.name)) (slice_get plan.sources a.source)
 due_by plan pause = None

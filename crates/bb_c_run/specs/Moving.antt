@@ -1,4 +1,4 @@
--- What moves do with a run that a host in another language holds.
+-- What moves do to a run that a host in another language holds.
 use Rattle.std.specs.Prelude.{◌≡◌, ◌++◌, ◌⊎◌, ◌&&◌, ℕ, Bool, true, false, not, List, take, is_some, Option, Some, None}
 use Rattle.bb_shell.specs.Emitting.{WroteUntil}
 use Rattle.bb_shell.specs.Emission.{Stretch}
@@ -13,7 +13,7 @@ use Rattle.bb_c_run.specs.declared.no_native.NoNative.{NoNative}
 use Rattle.bb_c_run.specs.declared.stands.Stands.{Stands}
 use Rattle.bb_c_run.specs.declared.stands.Stands.TheVariants as stand
 
--- memory ran out: before, and nothing was written, or in these segments, of which a front was written
+-- memory ran out: either before, and nothing was written, or in these segments, of which a prefix was written
 abbrev pub CutShort : Plan → List (List Note) → (was now : List ℕ) → Type 0
 CutShort plan segments was now = (now ≡ was) ⊎ ((halt : Halt) × WroteUntil plan (Some was) (Some now) segments halt)
 
@@ -23,34 +23,34 @@ Goes m r t was now s =
     let p = moved r.plan m (standing r) in
     (standing t ≡ p.standing) × (now ≡ was ++ trace_text r.plan p.emitted) × (s ≡ stands_by p.standing.pause)
 
--- a move of a run: it was made, or cut short for want of memory
+-- a move of a run: it was made, or cut short because memory ran out
 abbrev pub Makes : {b : _} → Move → (r : Running NoNative b) → Option (Running NoNative b) → (was now : List ℕ) → Stands → Type 0
 Makes m r None was now s = ⊥
 Makes m r (Some t) was now s =
     (t.plan ≡ r.plan) × (Goes m r t was now s ⊎ ((s ≡ stand.Memory) × CutShort r.plan (moved r.plan m (standing r)).emitted was now))
 
--- a move of what is held: of a run that was finished nothing comes
+-- a move of what is held: for a finished run nothing happens
 abbrev pub Moves : {b : _} → Move → (old new : Option (Running NoNative b)) → (was now : List ℕ) → Stands → Type 0
 Moves m None new was now s = (new ≡ None) × (now ≡ was) × (s ≡ stand.Finished)
 Moves m (Some r) new was now s = Makes m r new was now s
 
--- memory ran out: before, and nothing was written, or in the end of a run, of whose segments the first, or whose text's
--- front, was written
+-- memory ran out: either before, and nothing was written; or at the end of a run, and its first segments, or a prefix
+-- of its text, were written
 abbrev pub EndsEarly : Plan → Stretch → (was now : List ℕ) → Type 0
 EndsEarly plan p was now =
     (now ≡ was) ⊎ ((count : ℕ) × ((now ≡ was ++ trace_text plan (take count p.emitted)) ⊎ (now ≡ was ++ take count (trace_text plan p.emitted))))
 
--- a run was ended, and its finish can be read; or memory ran out
+-- a run was ended, and its end can be read; or memory ran out
 abbrev pub Concludes : Plan → Stretch → (was now : List ℕ) → Stands → Type 0
 Concludes plan p was now s =
     ((now ≡ was ++ trace_text plan p.emitted) × (s ≡ stands_by (pause_by p.end)))
     ⊎ ((s ≡ stand.Memory) × EndsEarly plan p was now)
 
--- whether a run can't be ended: its native is due, and no move of it was cut short
+-- the run can't be ended: its native is due, and no move of it was cut short
 abbrev pub must_go_on : {b : _} → Running NoNative b → Bool
 must_go_on r = is_due r.pause && not (is_some r.cut)
 
--- a run was ended, and nothing is held any more; one that waits for its native's answer goes on as it is
+-- a run was ended, and nothing is held any more; one that waits for its native's answer is unchanged
 abbrev pub EndsUnless : {b : _} → (waiting : Bool) → (r : Running NoNative b) → (new : Option (Running NoNative b)) → (was now : List ℕ) → Stands → Type 0
 EndsUnless true r new was now s = (new ≡ Some r) × (now ≡ was) × (s ≡ stand.Due)
 EndsUnless false r new was now s = (new ≡ None) × Concludes r.plan (finished r.plan (standing r)) was now s

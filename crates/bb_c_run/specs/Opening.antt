@@ -1,4 +1,4 @@
--- The run that the bytes of an input begin, where the host answers for natives.
+-- The run that the bytes of an input begin, if the host answers for natives.
 use Rattle.std.specs.Prelude.{◌≡◌, ℕ, ℤ, List, [], Option, Some, None, IsSomeAnd, Result, Ok, Err}
 use Rattle.bb_main_input.specs.Input.{input_of}
 use Rattle.bb_main_input.specs.Sections.{Texts}
@@ -18,11 +18,11 @@ abbrev pub in_sections : (natives : List (List ℕ)) → (floor : ℤ) → Resul
 in_sections natives floor (Ok t) = unless_refused (meaning natives t.schema t.units t.sources t.bundle floor)
 in_sections natives floor (Err fault) = None
 
--- what the bytes of an input mean, where the host answers for natives of these names; nothing where it is refused
+-- what the bytes of an input mean, if the host answers for natives with these names; nothing if the input is refused
 abbrev pub meaning_of : (input : List ℕ) → (natives : List (List ℕ)) → (floor : ℤ) → Option Meaning
 meaning_of input natives floor = in_sections natives floor (input_of input)
 
--- a run was begun with what an input means: its start can be read, and no ask is gathered
+-- a run was begun with what an input means: its start can be read, and no asks are gathered
 abbrev pub Begins : Meaning → Held → Type 0
 Begins m h =
     let p = started m.plan m.board [] in

@@ -1,4 +1,4 @@
--- A run that a host in another language holds, and how it stands.
+-- A run that a host in another language holds, and its state.
 use Rattle.std.specs.Prelude.{ℕ, Bool, List, [], drop, is_some, if◌then◌else◌, Option, Some, None, option_and_then, pos}
 use Rattle.bb_schema.specs.Schema.{Schema, label_named, label_set_named}
 use Rattle.bb_shell.specs.Native.{Native}
@@ -40,30 +40,30 @@ stands_by Resting = stand.Resting
 stands_by (Due a) = stand.Due
 stands_by (Over end) = stand.Full
 
--- how a run stands: after a move that was cut short nothing but memory is told of it
+-- the state of a run: after a move that was cut short, only memory is reported
 abbrev pub stands_now : {b : _} → Option (Running NoNative b) → Stands
 stands_now None = stand.Finished
 stands_now (Some r) = if is_some r.cut then stand.Memory else stands_by r.pause
 
--- where a run stands that is held
+-- the standing of a held run
 abbrev pub standing : {b : _} → Running NoNative b → Standing
 standing r = stands (seen meant r.state) r.made r.pause
 
--- the number that the next new unit gets, or 0 once the run was finished
+-- the number of the next new unit, or 0 once the run is finished
 abbrev pub next_in : {b : _} → Option (Running NoNative b) → ℕ
 next_in None = 0
 next_in (Some r) = (sight_of r.state.board).world.units.next
 
--- the number of cycles that were made, or 0 once the run was finished
+-- the number of cycles that were made, or 0 once the run is finished
 abbrev pub made_in : {b : _} → Option (Running NoNative b) → ℕ
 made_in None = 0
 made_in (Some r) = r.made
 
--- a label of a schema by the names of its set and of itself
+-- a label of a schema, by the names of its set and of the label
 abbrev pub label_of : Schema → (set label : List ℕ) → Option Value
 label_of s set label = option_and_then (λ n. option_and_then (λ l. Some (values.Label n l)) (label_named s n label)) (label_set_named s set)
 
--- a label by its names, where a run has it
+-- a label by its names, if the run has it
 abbrev pub label_in : {b : _} → Option (Running NoNative b) → (set label : List ℕ) → Option Value
 label_in None set label = None
 label_in (Some r) set label = label_of r.state.board.schema set label

@@ -1,4 +1,4 @@
-//! What the sources of a run may cost. `Held` hands it on.
+//! What the sources of a run can cost. `Held` returns it.
 
 ghost use Rattle.std.specs.Prelude.{◌≡◌, ◌≤◌, ◌-◌, ◌^◌, min};
 ghost use Rattle.std.specs.List.{list_any};
@@ -9,8 +9,8 @@ ghost use Rattle.bb_c_run.specs.Costs.{most_steps_of};
 use bb_shell::Source;
 use bb_verify::FOUND_LIMIT;
 
-/// The greatest number of steps that an execution of any code of the sources can make, where no sequence that it finds
-/// has more than `found` units, up to 2^64 - 1. An execution can find `FOUND_LIMIT` units at most.
+/// Returns the maximum number of steps that an execution of any code of the sources can make if no sequence that it
+/// finds has more than `found` units; at most 2^64 - 1. An execution can find at most `FOUND_LIMIT` units.
 pub(crate) fn most_steps(sources: &[Source], found: u32) -> u64
     ensures { result ≡ min (most_steps_of sources.now (min found MOST_FOUND)) (2 ^ 64 - 1) }
 {
@@ -28,7 +28,7 @@ fn most_of(sources: &[Source], found: u32) -> u128
     most
 }
 
-/// Whether one of the sources has a code that makes a unit.
+/// Returns whether one of the sources has a code that creates a unit.
 pub(crate) fn creates(sources: &[Source]) -> bool
     ensures { result ≡ list_any creates sources.now }
 {

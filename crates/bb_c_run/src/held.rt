@@ -1,4 +1,4 @@
-//! A run that is held, and its moves. The calls for C (bb_c) make them.
+//! A held run, and its moves. The calls for C (bb_c) make them.
 
 ghost use Rattle.std.specs.Prelude.{◌≡◌, ◌++◌, ◌∷◌, [], IfErr, IfOk, OnOk, OnErr, Some, None, drop, length, map, min, take};
 ghost use Rattle.std.specs.Str.Lines.{lines};
@@ -19,7 +19,7 @@ use std::mem;
 
 mod looks;
 
-/// A run that is held, until it is finished; what of its trace was not read yet; and the asks that are gathered.
+/// A held run, until it is finished; the part of its trace that was not read yet; and the asks that are gathered.
 pub struct Held {
     alloc: Global,
     running: Option<Running<NoNative>>,
@@ -27,7 +27,7 @@ pub struct Held {
     asks: Vec<Ask>,
 }
 
-/// Why no run begins.
+/// Why a run could not begin.
 #[derive(Clone, Copy, Debug, PartialEq, Eq)]
 pub enum OpenFault {
     /// The input is refused.
@@ -36,7 +36,7 @@ pub enum OpenFault {
     Memory,
 }
 
-// The names that a text lists, one on each line.
+// Lists the names of a text, one on each line.
 fn names_in(alloc: Global, natives: &str) -> Result<Vec<Text>, AllocError>
     ensures { IfOk result (λ v. v.items ≡ lines natives.now) }
 {
@@ -47,7 +47,7 @@ fn names_in(alloc: Global, natives: &str) -> Result<Vec<Text>, AllocError>
     Ok(names)
 }
 
-// A shell of an input, whose host answers for natives of these names.
+// Makes the shell of an input whose host answers for natives with these names.
 fn shell_of(
     alloc: Global,
     input: &[u8],
@@ -75,7 +75,7 @@ fn shell_of(
     }
 }
 
-// Begins the run of a shell to which no natives were handed in.
+// Begins the run of a shell without natives.
 fn begun(alloc: Global, shell: HostedShell<NoNative>) -> Result<Held, OpenFault>
     requires { map ⟦<NoNative as NativeSource>⟧.meaning shell.roster.natives.items ≡ [] }
     ensures begun { IfOk result (λ h. Begins (record { plan = shell.plan; board = shell.board }) h) }
@@ -94,8 +94,9 @@ fn begun(alloc: Global, shell: HostedShell<NoNative>) -> Result<Held, OpenFault>
 }
 
 impl Held {
-    /// Begins the run of an input, whose sources may act by natives of the names in `natives`, one on each line, and with
-    /// no activation rated below `floor`. Where one of these natives is due the run stops, and `answer` goes on.
+    /// Begins the run of an input, with no activation rated below `floor`. Its sources may act by natives with the
+    /// names in `natives`, one on each line. If one of these is due, the run stops, and `answer` continues it.
+    /// `Refused`: the input is refused. `Memory`: memory ran out.
     pub fn open(alloc: Global, input: &[u8], natives: &str, floor: i64) -> Result<Held, OpenFault>
         ensures begun { IfOk result (λ h.
             (m : Meaning) × (meaning_of input.now (lines natives.now) floor ≡ Some m) × Begins m h) }
@@ -110,7 +111,7 @@ impl Held {
         }
     }
 
-    /// How the run stands.
+    /// Returns the state of the run.
     pub fn stands(&self) -> Stands
         ensures { result ≡ stands_now self.now.running }
     {
@@ -121,7 +122,7 @@ impl Held {
         }
     }
 
-    /// Makes a cycle, or emits quiescence where nothing can be chosen.
+    /// Makes a cycle, or emits quiescence if nothing can be chosen. Returns the state of the run.
     pub fn turn(&mut self) -> Stands
         ensures moves { Moves one_turn self.old.running self.new.running
             (unread self.old.trace) (unread self.new.trace) result }
@@ -139,7 +140,7 @@ impl Held {
         }
     }
 
-    /// Makes at most so many cycles more, and emits quiescence after them where nothing can be chosen then.
+    /// Makes up to `cycles` more cycles, then emits quiescence if nothing can be chosen. Returns the state of the run.
     pub fn advance(&mut self, cycles: u32) -> Stands
         ensures moves { Moves (advance cycles) self.old.running self.new.running
             (unread self.old.trace) (unread self.new.trace) result }
@@ -157,7 +158,8 @@ impl Held {
         }
     }
 
-    /// Gathers an ask, behind those that were gathered since the last post or answer.
+    /// Gathers an ask, after those gathered since the last post or answer. `Memory`: memory ran out, and it is not
+    /// gathered.
     pub fn ask(&mut self, ask: Ask) -> Result<(), Memory>
         ensures asks { OnOk result (self.new.asks.items ≡ self.old.asks.items ++ ask ∷ []) }
         ensures err { OnErr result (self.new.asks.items ≡ self.old.asks.items) }
@@ -167,7 +169,7 @@ impl Held {
         Ok(())
     }
 
-    /// Forgets the asks that were gathered since the last post or answer.
+    /// Discards the asks gathered since the last post or answer.
     pub fn discard(&mut self)
         ensures asks { self.new.asks.items ≡ [] }
         ensures kept { (self.new.running ≡ self.old.running) × (self.new.trace ≡ self.old.trace) }
@@ -175,7 +177,8 @@ impl Held {
         self.asks.clear();
     }
 
-    /// Tells the run what happened: posts the asks that were gathered, and none are gathered then.
+    /// Posts the gathered asks, which tell the run what happened. No asks are gathered afterwards. Returns the state of
+    /// the run.
     pub fn post(&mut self) -> Stands
         ensures moves { Moves (post self.old.asks.items) self.old.running self.new.running
             (unread self.old.trace) (unread self.new.trace) result }
@@ -194,8 +197,8 @@ impl Held {
         }
     }
 
-    /// Answers for the native that is due by the asks that were gathered, and none are gathered then. Where none is due
-    /// they are forgotten, and nothing happens.
+    /// Answers for the native that is due with the gathered asks. No asks are gathered afterwards. If no native is due,
+    /// they are discarded, and nothing else happens. Returns the state of the run.
     pub fn answer(&mut self) -> Stands
         ensures moves { Moves (answer self.old.asks.items) self.old.running self.new.running
             (unread self.old.trace) (unread self.new.trace) result }
@@ -214,8 +217,8 @@ impl Held {
         }
     }
 
-    /// Ends the run: where it still goes on it first comes to rest, or to its limit. Then the trace alone can be read.
-    /// Where a native is due the run can't be ended, and nothing happens.
+    /// Ends the run: if it is still going, it first comes to rest or to its limit. Afterwards only the trace can be
+    /// read. If a native is due, the run can't be ended, and nothing happens. Returns the state of the run.
     #[tactic(auto, using(crate::proofs::EndLemmas::memory_concludes, crate::proofs::EndLemmas::write_concludes))]
     pub fn finish(&mut self) -> Stands
         ensures ends { Ends self.old.running self.new.running (unread self.old.trace) (unread self.new.trace) result }
@@ -246,7 +249,7 @@ impl Held {
         }
     }
 
-    /// Reads of the trace what was not read yet, as much as there is room for, and returns the number of its bytes.
+    /// Reads as much of the unread trace as `to` has room for, and returns the number of bytes read.
     pub fn read(&mut self, to: &mut [u8]) -> usize
         ensures count { result ≡ min (length (unread self.old.trace)) (length to.old) }
         ensures given { to.new ≡ take result (unread self.old.trace) ++ drop result to.old }

@@ -1,11 +1,12 @@
-//! A run that a host in another language holds: it can be dropped, keeps what was written of its trace until that is
-//! read, and gathers asks until they are posted.
+//! A run held by a host in another language. It can be dropped, keeps the trace until it is read, and gathers asks
+//! until they are posted.
 //!
-//! - In: the bytes of an input, moves, asks, and room to read into.
-//! - Out: how the run stands after each move, its trace, and what is looked up: on its blackboard, of the native that is
-//!   due, of what its sources may cost.
-//! - Callers rely on: what is read is what the moves emit (`bb_run_held/specs/Moves`), in order and each byte once.
+//! - In: the bytes of an input, moves, asks, and buffers to read into.
+//! - Out: the state of the run after each move; its trace; and what is looked up: the blackboard, the native that is
+//!   due, and what its sources can cost.
+//! - Callers rely on: what is read is what the moves emit (`bb_run_held/specs/Moves`), in order, every byte once.
 //! - Family: bb_run_held is the run, bb_c has the calls for C.
+//! - Tests: bb_main_tests.
 #![tactic(auto)]
 
 mod costs;

@@ -1,4 +1,4 @@
-//! What a host sees of the blackboard of a run that is held. `Held` hands it on.
+//! What a host sees of the blackboard of a held run. `Held` returns it.
 
 ghost use Rattle.std.specs.Prelude.{◌≡◌, IfErr, IfOk, filter, length, option_and_then, option_map};
 ghost use Rattle.bb_board_document.specs.Document.{units_text};
@@ -11,7 +11,7 @@ use bb_schema::{ClassId, SlotId};
 use bb_shell::{Memory, Plan, UnitId, Value, View};
 use std::alloc::Global;
 
-/// Copies as much of some items as there is room for, and returns their number.
+/// Copies as many of some items as `room` has places for, and returns the number of items.
 pub(crate) fn fill<T: Copy>(found: &[T], room: &mut [T]) -> usize
     ensures count { result ≡ length found.now }
     ensures filled { room.new ≡ filled found.now room.old }
@@ -21,7 +21,7 @@ pub(crate) fn fill<T: Copy>(found: &[T], room: &mut [T]) -> usize
     found.len()
 }
 
-/// The name of the class of a unit, if there is such a unit.
+/// Returns the name of a unit's class, if there is such a unit.
 pub(crate) fn class<'v>(view: &'v View<'_>, unit: UnitId) -> Option<&'v str>
     ensures { option_map (λ n. n.now) result ≡ class_in view.now unit }
 {
@@ -31,7 +31,7 @@ pub(crate) fn class<'v>(view: &'v View<'_>, unit: UnitId) -> Option<&'v str>
     view.schema().class_name(view.class_of(unit))
 }
 
-// The slot of this name that a unit has, if there is such a unit.
+// Returns the slot of a unit with this name, if there is such a unit and slot.
 fn slot_of(view: &View<'_>, unit: UnitId, name: &str) -> Option<SlotId>
     ensures { result ≡ slot_in view.now unit name.now }
 {
@@ -41,7 +41,7 @@ fn slot_of(view: &View<'_>, unit: UnitId, name: &str) -> Option<SlotId>
     view.schema().slot(view.class_of(unit), name)
 }
 
-// The value of an ordinary slot of a unit, if there is such a unit and such a slot.
+// Returns the value of an ordinary slot of a unit, if there is such a unit and slot.
 fn value<'v>(view: &'v View<'_>, unit: UnitId, slot: &str) -> Option<&'v Value>
     ensures { option_map (λ v. v.now) result ≡ value_in view.now unit slot.now }
 {
@@ -52,7 +52,7 @@ fn value<'v>(view: &'v View<'_>, unit: UnitId, slot: &str) -> Option<&'v Value>
     Some(view.get(unit, slot))
 }
 
-/// The number that an ordinary slot holds, if it holds one.
+/// Returns the number in an ordinary slot, if it holds one.
 pub(crate) fn number(view: &View<'_>, unit: UnitId, slot: &str) -> Option<i64>
     ensures { result ≡ option_and_then number_of (value_in view.now unit slot.now) }
 {
@@ -62,7 +62,7 @@ pub(crate) fn number(view: &View<'_>, unit: UnitId, slot: &str) -> Option<i64>
     }
 }
 
-/// The truth value that an ordinary slot holds, if it holds one.
+/// Returns the truth value in an ordinary slot, if it holds one.
 pub(crate) fn truth(view: &View<'_>, unit: UnitId, slot: &str) -> Option<bool>
     ensures { result ≡ option_and_then truth_of (value_in view.now unit slot.now) }
 {
@@ -72,7 +72,7 @@ pub(crate) fn truth(view: &View<'_>, unit: UnitId, slot: &str) -> Option<bool>
     }
 }
 
-/// The first and the last number of the interval that an ordinary slot holds, if it holds one.
+/// Returns the first and last number of the interval in an ordinary slot, if it holds one.
 pub(crate) fn interval(view: &View<'_>, unit: UnitId, slot: &str) -> Option<(i64, i64)>
     ensures { result ≡ option_and_then interval_of (value_in view.now unit slot.now) }
 {
@@ -82,7 +82,7 @@ pub(crate) fn interval(view: &View<'_>, unit: UnitId, slot: &str) -> Option<(i64
     }
 }
 
-/// The text that an ordinary slot holds, if it holds one.
+/// Returns the text in an ordinary slot, if it holds one.
 pub(crate) fn text<'v>(view: &'v View<'_>, unit: UnitId, slot: &str) -> Option<&'v str>
     ensures { option_map (λ t. t.now) result ≡ option_and_then text_of (value_in view.now unit slot.now) }
 {
@@ -92,7 +92,7 @@ pub(crate) fn text<'v>(view: &'v View<'_>, unit: UnitId, slot: &str) -> Option<&
     }
 }
 
-/// The name of the label that an ordinary slot holds, if it holds one.
+/// Returns the name of the label in an ordinary slot, if it holds one.
 pub(crate) fn label_name<'v>(view: &'v View<'_>, unit: UnitId, slot: &str) -> Option<&'v str>
     ensures { option_map (λ n. n.now) result
         ≡ option_and_then (label_name_of view.now) (value_in view.now unit slot.now) }
@@ -103,8 +103,8 @@ pub(crate) fn label_name<'v>(view: &'v View<'_>, unit: UnitId, slot: &str) -> Op
     }
 }
 
-/// Copies as many partners of a unit by a slot as there is room for, in order of addition, and returns their number; none
-/// where there is no such unit or slot.
+/// Copies as many partners of a unit by a slot as `room` has places for, in order of addition, and returns their
+/// number; `None` if there is no such unit or slot. `Memory`: memory ran out.
 pub(crate) fn partners(
     view: &View<'_>,
     unit: UnitId,
@@ -122,22 +122,22 @@ pub(crate) fn partners(
     Ok(Some(fill(found.as_slice(), room)))
 }
 
-// Whether a unit is of a class, or of one below it.
+// Returns whether a unit has a class, or one below it.
 fn is_of(view: &View<'_>, class: ClassId, unit: UnitId) -> bool
     ensures { result ≡ is_of view.now class unit }
 {
     view.live(unit) && view.schema().descends(view.class_of(unit), class)
 }
 
-// Keeps of some units those of a class, and of those below it.
+// Keeps the units that have a class, or one below it.
 fn keep_those_of(view: &View<'_>, class: ClassId, units: &mut Vec<UnitId>)
     ensures { units.new.items ≡ filter (is_of view.now class) units.old.items }
 {
     units.retain(|unit| is_of(view, class, *unit));
 }
 
-/// Copies as many of the units of a class, and of those below it, as there is room for, rising, and returns their number;
-/// none where there is no such class.
+/// Copies as many units of a class and of the classes below it as `room` has places for, ascending, and returns their
+/// number; `None` if there is no such class. `Memory`: memory ran out.
 pub(crate) fn units(
     view: &View<'_>,
     class: &str,
@@ -155,8 +155,8 @@ pub(crate) fn units(
     Ok(Some(fill(found.as_slice(), room)))
 }
 
-/// Copies as much of the document of first units of a blackboard as there is room for, and returns the number of its
-/// bytes.
+/// Copies as much of a blackboard's document of initial units as `room` has places for, and returns the number of bytes
+/// of the document. `Memory`: memory ran out.
 pub(crate) fn document(alloc: Global, view: &View<'_>, room: &mut [u8]) -> Result<usize, Memory>
     ensures count { IfOk result (λ n. n ≡ length (units_text view.now)) }
     ensures filled { IfOk result (λ _. room.new ≡ filled (units_text view.now) room.old) }
@@ -166,7 +166,7 @@ pub(crate) fn document(alloc: Global, view: &View<'_>, room: &mut [u8]) -> Resul
     Ok(fill(text.as_bytes(), room))
 }
 
-/// The unit on which a native is due, and its name, where one is.
+/// Returns the unit for which a native is due and the native's name, if one is due.
 pub(crate) fn due(plan: &Plan, pause: Pause) -> Option<(UnitId, &str)>
     ensures { option_map (λ d. (d.0, d.1.now)) result ≡ due_by plan.now pause }
 {

@@ -1,9 +1,9 @@
-//! The native of a run that has none.
+//! The type of natives of a run without natives.
 
 use bb_shell::{Ask, Memory, NativeSource, UnitId, View};
 use std::alloc::Global;
 
-/// It asks for nothing. No run that is held has one.
+/// A native that asks for nothing. No held run has one.
 #[derive(Drop)]
 pub struct NoNative {
     is_open: bool,
@@ -28,7 +28,7 @@ impl NativeSource for NoNative {
     }
 }
 
-/// No natives.
+/// Returns an empty list of natives.
 pub(crate) fn no_natives(alloc: Global) -> Vec<NoNative>
     ensures { map ⟦<NoNative as NativeSource>⟧.meaning result.items ≡ [] }
 {

@@ -1,28 +1,28 @@
-//! How a run that is held stands after a call.
+//! The state of a held run after a call.
 
 ghost use Rattle.std.specs.Prelude.{◌≡◌};
 ghost use Rattle.bb_c_run.specs.Sitting.{stands_by};
 
 use bb_run_held::Pause;
 
-/// How a run that is held stands after a call.
+/// The state of a held run after a call.
 #[derive(Clone, Copy, Debug, PartialEq, Eq)]
 pub enum Stands {
-    /// The run goes on: something can be chosen, or a turn emits quiescence.
+    /// The run can continue: something can be chosen, or a turn emits quiescence.
     Going,
-    /// Quiescence was emitted, and it changed nothing: only a post can have the run go on.
+    /// Quiescence was emitted and changed nothing: only a post continues the run.
     Resting,
-    /// A native is due: only an answer for it can have the run go on.
+    /// A native is due: only an answer for it continues the run.
     Due,
     /// The run is over: its blackboard or its agenda is full.
     Full,
-    /// Memory ran out, now or before: the run can be read and closed, and nothing else.
+    /// Memory ran out, now or before: the run can be read and closed, nothing else.
     Memory,
-    /// The run was finished, so the call did nothing.
+    /// The run is finished, so the call did nothing.
     Finished,
 }
 
-/// How a run stands between two moves.
+/// Returns the state of a run between two moves.
 pub(crate) fn stands_by(pause: Pause) -> Stands
     ensures { result ≡ stands_by pause }
 {

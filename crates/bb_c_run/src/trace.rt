@@ -1,11 +1,11 @@
-//! The trace of a run that is held, as far as it was not read yet. Moves write to it.
+//! The unread part of a held run's trace. Moves write to it.
 
 ghost use Rattle.std.specs.Prelude.{◌≡◌, ◌≤◌, ◌++◌, [], false, drop, length, min, take};
 
 use bb_shell::Out;
 use std::alloc::Global;
 
-/// An output that keeps its bytes until they are read. It fails where memory runs out.
+/// An output that keeps its bytes until they are read. It fails if memory runs out.
 #[derive(Drop)]
 pub(crate) struct Trace {
     bytes: Vec<u8>,
@@ -15,7 +15,7 @@ pub(crate) struct Trace {
 }
 
 impl Trace {
-    /// Nothing is written.
+    /// Makes an output to which nothing is written.
     pub(crate) fn new(alloc: Global) -> Trace
         ensures none { drop result.read result.bytes.items ≡ [] }
         ensures open { result.failed ≡ false }
@@ -27,7 +27,7 @@ impl Trace {
         }
     }
 
-    /// Reads bytes that were not read yet, as many as there is room for, and returns their number.
+    /// Reads as many unread bytes as `to` has room for, and returns their number.
     pub(crate) fn read(&mut self, to: &mut [u8]) -> usize
         ensures count { result ≡ min (length (drop self.old.read self.old.bytes.items)) (length to.old) }
         ensures given { to.new ≡ take result (drop self.old.read self.old.bytes.items) ++ drop result to.old }

@@ -1,10 +1,10 @@
-//! Cases of histories: what comes of one is compared. The suite calls it.
+//! Cases of histories: the outcome of a history is compared. The suite calls this.
 
+use crate::history::{History, Text, Told, natives};
 use bb_cases_format::{Difference, Entry, Fault, Header, Scope, expanded_text, number};
-use bb_cases_histories::{History, Text, Told, natives};
 use std::alloc::{AllocError, Global};
 
-// The names that the host answers for, parted by commas.
+// Returns the names that the host answers for, which are separated by commas.
 fn names(alloc: Global, listed: Option<&str>) -> Result<Vec<Text>, Fault> {
     let mut names = Vec::new(alloc);
     if let Some(listed) = listed {
@@ -15,7 +15,7 @@ fn names(alloc: Global, listed: Option<&str>) -> Result<Vec<Text>, Fault> {
     Ok(names)
 }
 
-// Whether a header hands in the native `reaper`; else there are none.
+// Returns whether a header hands in the native `reaper`. Without the option there are no natives.
 fn has_reaper(header: &Header<'_>) -> Result<bool, Fault> {
     match header.option("natives") {
         None => Ok(false),
@@ -24,7 +24,7 @@ fn has_reaper(header: &Header<'_>) -> Result<bool, Fault> {
     }
 }
 
-// The first difference of an output, or else that of the status.
+// Returns the first difference of an output, or else of the status.
 fn differs(
     alloc: Global,
     given: u8,
@@ -43,7 +43,7 @@ fn differs(
     }))
 }
 
-/// Compares a case of a history.
+/// Compares a case of a history. Returns the first difference.
 pub(crate) fn compare_history(
     alloc: Global,
     scope: Scope<'_>,
@@ -61,7 +61,7 @@ pub(crate) fn compare_history(
     Ok(differs(alloc, told.status, trace, status, wanted.as_bytes())?)
 }
 
-// What comes of a history, with the floor and the natives that its header names.
+// Returns the outcome of a history, with the floor and natives that its header names.
 fn told(alloc: Global, header: &Header<'_>, text: &str) -> Result<Told, Fault> {
     let floor = header.number("floor", 0)?;
     let has_reaper = has_reaper(header)?;

@@ -1,13 +1,14 @@
-//! The program that runs cases: it reads files of cases, makes their calls, and compares what comes of them with what
-//! should. What the built programs can run it leaves to tools/cases.
+//! The program that runs cases: reads files of cases, makes their calls, and compares the results with the wanted ones.
+//! It skips the cases that built programs can run; tools/cases runs those.
 //!
 //! - In: the `.case` files of `data/`, as docs/contributors/CASES.md describes them.
-//! - Out: a line for each case that does not hold, and the numbers of those that hold and do not.
-//! - Family: bb_cases_format reads the files, bb_cases_parts has the cases of schemas and codes, bb_cases_histories those of
+//! - Out: a line for every case that does not hold, and the numbers of cases that hold and do not.
+//! - Family: bb_cases_format reads the files, bb_cases_parts has the cases of schemas and codes, history those of
 //!   moves.
 #![tactic(auto)]
 
 mod histories;
+mod history;
 mod suite;
 mod tables;
 

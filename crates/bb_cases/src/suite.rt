@@ -1,4 +1,4 @@
-//! All cases: the entries of a file are run one after the other, and reported. `main` runs file after file.
+//! All cases: runs the entries of a file one after another, and reports them. `main` passes file after file.
 
 use crate::histories::compare_history;
 use crate::tables::Table;
@@ -26,7 +26,7 @@ impl Suite {
         }
     }
 
-    /// Runs the cases of the text of a file, or reports that it has none.
+    /// Runs the cases in the text of a file, or reports that the file has no text.
     pub fn run_file(&mut self, file: &str, text: Option<&str>) -> Result<(), AllocError> {
         self.names.begin(is_shared(file));
         let mut entries = Entries {
@@ -77,7 +77,7 @@ impl Suite {
         self.report.add(spot, outcome)
     }
 
-    // The first difference of a single case.
+    // Returns the first difference of a single case.
     fn compare(&self, entry: &Entry<'_>) -> Result<Option<Difference>, Fault> {
         let scope = Scope::new(self.alloc, &self.names);
         match entry.first.header.kind {

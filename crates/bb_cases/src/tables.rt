@@ -1,25 +1,25 @@
-//! Tables: cases of one kind, one a row. The suite compares row by row.
+//! Tables: cases of one kind, one in each row. The suite compares row by row.
 
+use crate::history::add_history;
 use bb_basis::Whole;
 use bb_cases_format::{
     Code, Difference, Entry, Fault, Header, Names, Row, Scene, Scope, code_of, expanded_text,
     number,
 };
-use bb_cases_histories::add_history;
 use bb_cases_parts::{Asked, Schema, add_on_scene, entry_of, schema_of};
 use std::alloc::Global;
 
 // What the rows of a table have in common.
 #[derive(Drop)]
 enum Common<'a> {
-    // Texts of moves, and the fault of reading them.
+    // Texts of moves, and the faults when they are read.
     Histories(Schema),
     // Executions of codes.
     Runs(&'a Scene),
 }
 
 impl<'a> Common<'a> {
-    // What the rows below a header have in common.
+    // Returns what the rows below a header have in common.
     fn of(alloc: Global, names: &'a Names, header: &Header<'_>) -> Result<Common<'a>, Fault> {
         if header.kind == "histories" {
             header.check(&["schema"])?;
@@ -43,7 +43,7 @@ pub(crate) struct Table<'a> {
 }
 
 impl<'a> Table<'a> {
-    /// The table of an entry.
+    /// Returns the table of an entry.
     pub fn of(alloc: Global, names: &'a Names, entry: &Entry<'_>) -> Result<Table<'a>, Fault> {
         let header = &entry.first.header;
         let common = Whole::of(Common::of(alloc, names, header)?);
@@ -59,7 +59,7 @@ impl<'a> Table<'a> {
         })
     }
 
-    /// The first difference of a row.
+    /// Returns the first difference of a row.
     pub fn compare(&self, row: &Row) -> Result<Option<Difference>, Fault> {
         let (front, back) = row.sides()?;
         let scope = Scope::new(self.alloc, self.names);
@@ -73,7 +73,7 @@ impl<'a> Table<'a> {
         Ok(Difference::of(self.alloc, wanted.as_bytes(), given.as_bytes())?)
     }
 
-    // Appends what comes of a text.
+    // Appends the outcome of a text.
     fn add_given(&self, given: &mut String, front: &str, text: &str) -> Result<(), Fault> {
         match &self.common {
             Common::Histories(schema) => add_history(self.alloc, given, schema, text),
@@ -81,7 +81,7 @@ impl<'a> Table<'a> {
         }
     }
 
-    // The code of the head and the text after it.
+    // Returns the code of the head and the text after it.
     fn headed_code(&self, text: &str) -> Result<Code, Fault> {
         let whole = format!(in self.alloc; "{}{text}", self.head.as_str())?;
         code_of(self.alloc, whole.as_str())

@@ -1,12 +1,12 @@
-//! The first difference between what is wanted and what is given. A case that does not hold has one.
+//! The first difference between the wanted and the given text. A case that does not hold has one.
 
 use std::alloc::{AllocError, Global};
 use std::fmt::Write;
 
-// How much of a line is shown.
+// The maximum number of bytes of a line that are shown.
 const SHOWN_LIMIT: usize = 300;
 
-/// The place where what is given begins to differ from what is wanted.
+/// The place where the given text begins to differ from the wanted one.
 #[derive(Drop)]
 pub struct Difference {
     /// The number of the line, from 1, or 0 if the status differs.
@@ -18,7 +18,7 @@ pub struct Difference {
 }
 
 impl Difference {
-    /// The first difference between two texts.
+    /// Returns the first difference between two texts, or `None` if they are equal.
     pub fn of(
         alloc: Global,
         wanted: &[u8],
@@ -48,7 +48,7 @@ impl Difference {
     }
 }
 
-// The front of a line in quotes, with numbers for bytes that are no plain characters, or the end of a text.
+// Returns the start of a line in quotes, with numbers for bytes that are not plain characters, or the end of a text.
 fn shown(alloc: Global, line: Option<&[u8]>) -> Result<String, AllocError> {
     let Some(bytes) = line else {
         return String::from_str(alloc, "the end");

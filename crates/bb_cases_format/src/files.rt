@@ -1,11 +1,11 @@
-//! Which files the program (bb_cases) reads: those that the arguments name, or all of the working folder.
+//! The files that the program (bb_cases) reads: those named by the arguments, or all of the working folder.
 
 use std::{env, fs, io};
 
-// The file whose names hold in all files.
+// The file whose names are known in all files.
 const SHARED: &str = "shared.case";
 
-/// Whether a file is the one whose names hold in all files.
+/// Returns whether a file is the one whose names are known in all files.
 pub fn is_shared(file: &str) -> bool {
     match file.rsplit_once('/') {
         Some((_, name)) => name == SHARED,
@@ -13,7 +13,8 @@ pub fn is_shared(file: &str) -> bool {
     }
 }
 
-/// The files of the arguments, or else all files of cases of the working folder by name. The shared file comes first.
+/// Returns the files of the arguments, or else all case files of the working folder, by name. The shared file comes
+/// first.
 pub fn named_files(rt: &HostRuntime) -> io::Result<Vec<String>> {
     let mut files = Vec::new(rt.alloc());
     for argument in env::args(rt)?.skip(1) {

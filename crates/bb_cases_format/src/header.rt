@@ -1,4 +1,4 @@
-//! Headers: a kind, a name, and options, each a word and its value. The parts of a file (parts.rt) begin with one.
+//! Headers: a kind, a name, and options, each a word and its value. Every part of a file (parts.rt) begins with one.
 
 use crate::fault::Fault;
 use std::alloc::Global;
@@ -7,18 +7,18 @@ use std::str::FromStr;
 /// The words of a header.
 #[derive(Drop)]
 pub struct Header<'a> {
-    /// The kind of the entry, or the word that a second text begins with.
+    /// The kind of the entry, or the first word of a second text.
     pub kind: &'a str,
-    /// The word after the kind, or nothing.
+    /// The word after the kind; empty if there is none.
     pub name: &'a str,
     // The words after the name: options and their values.
     options: Vec<&'a str>,
-    /// Whether the case has to be reported.
+    /// Whether the case is marked as wrong.
     pub wrong: bool,
 }
 
 impl<'a> Header<'a> {
-    /// The header that a line is.
+    /// Reads the header in a line.
     pub fn of(alloc: Global, line: &'a str) -> Result<Header<'a>, Fault> {
         let mut words = line.split(' ').filter(|word| !word.is_empty());
         let kind = words.next().unwrap_or("");
@@ -36,7 +36,8 @@ impl<'a> Header<'a> {
         })
     }
 
-    /// Checks that there is a name, and that the options are all among the allowed ones.
+    /// Checks that there is a name, and that all options are among the allowed ones. `Name`: there is no name.
+    /// `Options`: an option is not allowed, or has no value.
     pub fn check(&self, allowed: &[&str]) -> Result<(), Fault> {
         if !is_name(self.name) {
             return Err(Fault::Name);
@@ -52,7 +53,7 @@ impl<'a> Header<'a> {
         Ok(())
     }
 
-    /// The value of an option.
+    /// Returns the value of an option.
     pub fn option(&self, option: &str) -> Option<&'a str> {
         let mut words = self.options.iter().copied();
         for _ in 0..self.options.len() {
@@ -65,7 +66,7 @@ impl<'a> Header<'a> {
         None
     }
 
-    /// The number that an option has, or `absent` without the option.
+    /// Returns the number that an option has, or `absent` without the option. `Number`: it is not a number.
     pub fn number<T: FromStr + Drop>(&self, option: &str, absent: T) -> Result<T, Fault>
     where
         T::Err: Drop,
@@ -77,7 +78,7 @@ impl<'a> Header<'a> {
     }
 }
 
-/// The number that a word is.
+/// Parses a word as a number. `Number`: it is none of this type.
 pub fn number<T: FromStr>(word: &str) -> Result<T, Fault>
 where
     T::Err: Drop,
@@ -85,7 +86,7 @@ where
     word.parse::<T>().ok().ok_or(Fault::Number)
 }
 
-/// Whether a word is made of letters, digits and `_`, at least one.
+/// Returns whether a word consists of letters, digits and `_`, at least one.
 pub(crate) fn is_name(word: &str) -> bool {
     !word.is_empty()
         && word

@@ -1,4 +1,4 @@
-//! What the inserts of a text stand for. Every text of a case goes through `expanded`.
+//! Expands the inserts of a text. Every text of a case goes through `expanded`.
 
 use crate::codes::hex_of;
 use crate::fault::Fault;
@@ -7,25 +7,25 @@ use crate::names::Names;
 use crate::pieces::{Piece, cut};
 use std::alloc::Global;
 
-// How deep inserts may be in each other.
+// The maximum nesting of inserts.
 const DEPTH_LIMIT: u8 = 8;
 
 // What ends the first word of an insert.
 const BETWEEN: [char; 2] = [' ', '\n'];
 
-/// What inserts can stand for at a place.
+/// What inserts can mean at a place.
 #[derive(Clone, Copy)]
 pub struct Scope<'a> {
     alloc: Global,
     names: &'a Names,
-    // The number of the turn, from 0, inside a `$(times)`.
+    // The iteration number, from 0, inside a `$(times)`.
     n: Option<u64>,
-    // The number of the turn of the `$(times)` around that one.
+    // The iteration number of the `$(times)` around that one.
     m: Option<u64>,
 }
 
 impl<'a> Scope<'a> {
-    /// The scope outside of `$(times)`.
+    /// Makes the scope outside `$(times)`.
     pub fn new(alloc: Global, names: &'a Names) -> Scope<'a> {
         Scope {
             alloc,
@@ -35,7 +35,7 @@ impl<'a> Scope<'a> {
         }
     }
 
-    // The number that words between `*` are.
+    // Returns the product of the words between `*`.
     fn product(self, text: &str) -> Result<u64, Fault> {
         let mut product = 1u64;
         for word in text.split('*') {
@@ -49,7 +49,7 @@ impl<'a> Scope<'a> {
         Ok(product)
     }
 
-    // The number that products between `+` are.
+    // Returns the sum of the products between `+`.
     fn sum(self, text: &str) -> Result<u64, Fault> {
         let mut sum = 0u64;
         for part in text.split('+') {
@@ -59,25 +59,25 @@ impl<'a> Scope<'a> {
     }
 }
 
-/// The bytes that a text stands for.
+/// Returns the bytes of a text with its inserts expanded.
 pub fn expanded(scope: Scope<'_>, text: &str) -> Result<Vec<u8>, Fault> {
     let mut out = Vec::new(scope.alloc);
     put(scope, text, DEPTH_LIMIT, &mut out)?;
     Ok(out)
 }
 
-/// The text that a text stands for.
+/// Returns a text with its inserts expanded. `Utf8`: the result is not UTF-8.
 pub fn expanded_text(scope: Scope<'_>, text: &str) -> Result<String, Fault> {
     let bytes = expanded(scope, text)?;
     Ok(String::from_str(scope.alloc, text_of(&bytes)?)?)
 }
 
-/// Bytes as a text.
+/// Returns bytes as a text. `Utf8`: they are not UTF-8.
 pub(crate) fn text_of(bytes: &[u8]) -> Result<&str, Fault> {
     str::from_utf8(bytes).ok().ok_or(Fault::Utf8)
 }
 
-// Appends what a text stands for.
+// Appends a text with its inserts expanded.
 #[cycle(putting)]
 fn put(scope: Scope<'_>, text: &str, depth: u8, out: &mut Vec<u8>) -> Result<(), Fault> {
     for piece in &cut(scope.alloc, text)? {
@@ -89,7 +89,7 @@ fn put(scope: Scope<'_>, text: &str, depth: u8, out: &mut Vec<u8>) -> Result<(),
     Ok(())
 }
 
-// Appends what an insert stands for.
+// Appends the meaning of an insert.
 #[cycle(putting)]
 fn put_insert(scope: Scope<'_>, insert: &str, depth: u8, out: &mut Vec<u8>) -> Result<(), Fault> {
     if depth == 0 {
@@ -104,7 +104,7 @@ fn put_insert(scope: Scope<'_>, insert: &str, depth: u8, out: &mut Vec<u8>) -> R
     }
 }
 
-// Appends a text as many times as the number before it says.
+// Appends a text repeatedly, as often as the number before it says.
 #[cycle(putting)]
 fn put_times(scope: Scope<'_>, text: &str, depth: u8, out: &mut Vec<u8>) -> Result<(), Fault> {
     let (word, text) = text.split_once(BETWEEN).unwrap_or((text, ""));
@@ -134,7 +134,7 @@ fn put_code(scope: Scope<'_>, text: &str, depth: u8, out: &mut Vec<u8>) -> Resul
     Ok(())
 }
 
-// Appends bytes, which are written in hex.
+// Appends bytes that are written in hex.
 fn put_bytes(words: &str, out: &mut Vec<u8>) -> Result<(), Fault> {
     for word in words.split(' ') {
         let byte = u8::from_str_radix(word, 16).ok().ok_or(Fault::Hex)?;
@@ -143,7 +143,7 @@ fn put_bytes(words: &str, out: &mut Vec<u8>) -> Result<(), Fault> {
     Ok(())
 }
 
-// Appends a number or what a name stands for.
+// Appends a number, or the meaning of a name.
 fn put_value(scope: Scope<'_>, insert: &str, out: &mut Vec<u8>) -> Result<(), Fault> {
     if insert == "n" || insert == "m" || insert.contains(['+', '*']) {
         let sum = scope.sum(insert)?;

@@ -1,5 +1,9 @@
-//! Files of cases: their headers and texts, the inserts and rows of these, what names stand for, and the report of what
-//! does not hold.
+//! Files of cases: headers and texts, their inserts and rows, the meaning of names, and the report on cases that do not
+//! hold.
+//!
+//! - In: the files of `data/` of bb_cases, as docs/contributors/CASES.md describes them.
+//! - Out: `Entries`, `expanded` and `rows_of`, which read files; `Names`; `Difference` and `Report`.
+//! - Family: bb_cases and bb_cases_parts run the cases.
 #![tactic(auto)]
 
 mod codes;

@@ -1,4 +1,4 @@
-//! What names stand for: texts and boards, of a file and of all files. Inserts and cases look them up.
+//! The meaning of names: texts and boards, of a file and of all files. Inserts and cases look them up.
 
 use crate::fault::Fault;
 use crate::header::is_name;
@@ -6,20 +6,20 @@ use crate::inserts::text_of;
 use std::alloc::Global;
 use std::collections::BTreeMap;
 
-// The words of inserts, which name nothing else.
+// The words of inserts, which can't be names.
 const RESERVED: [&str; 7] = ["n", "m", "row", "join", "byte", "code", "times"];
 
-/// How a blackboard is made.
+/// How to make a blackboard.
 pub struct Scene {
     /// The document of the schema.
     pub schema: String,
-    /// The document of the first units, if there are some.
+    /// The document of the initial units, if there are any.
     pub units: Option<String>,
-    /// The unit that is deleted after the first units were created.
+    /// The unit to delete after the initial units were created, if any.
     pub deleted: Option<u64>,
 }
 
-// By hand, so that a proof meets one call where it is dropped, and not each of its parts.
+// Written by hand, so that proofs meet one call where it is dropped, instead of each of its fields.
 impl Drop for Scene {
     fn drop(self) {
         let Scene {
@@ -30,7 +30,7 @@ impl Drop for Scene {
     }
 }
 
-/// What a name stands for.
+/// The meaning of a name.
 #[derive(Drop)]
 pub enum Meaning {
     /// A text, of any bytes.
@@ -39,18 +39,18 @@ pub enum Meaning {
     Board(Scene),
 }
 
-/// The names of a file, and those that hold in all files.
+/// The names of a file, and those known in all files.
 #[derive(Drop)]
 pub struct Names {
     alloc: Global,
     shared: BTreeMap<String, Meaning>,
     own: BTreeMap<String, Meaning>,
-    // Whether new names hold in all files.
+    // Whether new names are known in all files.
     sharing: bool,
 }
 
 impl Names {
-    /// No names so far.
+    /// Makes an empty table of names.
     pub fn new(alloc: Global) -> Names {
         Names {
             alloc,
@@ -60,13 +60,13 @@ impl Names {
         }
     }
 
-    /// Begins a file, and forgets the names of the one before.
+    /// Begins a file, and forgets the names of the file before; `sharing` makes its names known in all files.
     pub fn begin(&mut self, sharing: bool) {
         self.own = BTreeMap::new(self.alloc);
         self.sharing = sharing;
     }
 
-    /// Names something.
+    /// Adds a name. `Name`: it is not a name. `Taken`: it has a meaning already, or is a word of inserts.
     pub fn add(&mut self, name: &str, meaning: Meaning) -> Result<(), Fault> {
         if !is_name(name) {
             return Err(Fault::Name);
@@ -91,7 +91,7 @@ impl Names {
         }
     }
 
-    /// The text of a name.
+    /// Returns the text with a name. `Unknown`: no text has it.
     pub fn text(&self, name: &str) -> Result<&[u8], Fault> {
         match self.get(name) {
             Some(Meaning::Text(text)) => Ok(text.as_slice()),
@@ -99,7 +99,7 @@ impl Names {
         }
     }
 
-    /// The board of a name.
+    /// Returns the board with a name. `Unknown`: no board has it.
     pub fn board(&self, name: &str) -> Result<&Scene, Fault> {
         match self.get(name) {
             Some(Meaning::Board(scene)) => Ok(scene),
@@ -107,7 +107,7 @@ impl Names {
         }
     }
 
-    /// A copy of the text of the name that an option has.
+    /// Copies the text with the name that an option has. `Options`: there is no option. `Utf8`: the text is not UTF-8.
     pub fn copied(&self, name: Option<&str>) -> Result<String, Fault> {
         let text = text_of(self.text(name.ok_or(Fault::Options)?)?)?;
         Ok(String::from_str(self.alloc, text)?)

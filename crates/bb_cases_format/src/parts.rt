@@ -1,11 +1,11 @@
-//! Files of cases: their entries, each a header with the lines of its text, and perhaps a second one. The suite
-//! (bb_cases) runs them.
+//! Files of cases: their entries, each a header with the lines of its text, and possibly a second header with lines.
+//! The suite (bb_cases) runs them.
 
 use crate::fault::Fault;
 use crate::header::Header;
 use std::alloc::{AllocError, Global};
 
-/// A line of a file, without its end.
+/// A line of a file, without its line end.
 #[derive(Clone, Copy)]
 pub struct Line<'a> {
     /// The number of the line, from 1.
@@ -26,7 +26,7 @@ pub struct Part<'a> {
 }
 
 impl Part<'_> {
-    /// The lines as one text.
+    /// Returns the lines as one text.
     pub fn text(&self, alloc: Global) -> Result<String, AllocError> {
         let mut text = String::new(alloc);
         for line in &self.lines {
@@ -40,14 +40,15 @@ impl Part<'_> {
 /// An entry of a file.
 #[derive(Drop)]
 pub struct Entry<'a> {
-    /// What the entry is, and its text.
+    /// What the entry gives, or its rows.
     pub first: Part<'a>,
     /// What the entry gives, or its rows.
     pub second: Option<Part<'a>>,
 }
 
 impl<'a> Entry<'a> {
-    /// The second part, which begins with that word.
+    /// Returns the second part, which has to begin with `word`. `NoSecond`: it is missing. `Second`: it begins with
+    /// another word.
     pub fn second(&self, word: &str) -> Result<&Part<'a>, Fault> {
         let second = self.second.as_ref().ok_or(Fault::NoSecond)?;
         if second.header.kind == word {
@@ -57,7 +58,7 @@ impl<'a> Entry<'a> {
         }
     }
 
-    /// The part that has the rows of a table.
+    /// Returns the part with the rows of a table. `Second`: there is a second part.
     pub fn rows(&self) -> Result<&Part<'a>, Fault> {
         if self.second.is_some() {
             return Err(Fault::Second);
@@ -78,7 +79,7 @@ pub struct Entries<'a> {
 }
 
 impl<'a> Entries<'a> {
-    /// Reads a file. If it fails, `number` is that of the faulty line.
+    /// Reads a file. After a failure, `number` is the number of the faulty line.
     pub fn read(&mut self, text: &'a str) -> Result<(), Fault> {
         for line in text.split('\n') {
             self.number = self.number.saturating_add(1);

@@ -1,4 +1,4 @@
-//! The cutting of a text into plain pieces and the inserts in it. Templates (inserts.rt) and rows (rows.rt) are cut.
+//! Cuts a text into plain pieces and inserts. Templates (inserts.rt) and rows (rows.rt) use this.
 
 use crate::fault::Fault;
 use std::alloc::Global;
@@ -6,20 +6,20 @@ use std::alloc::Global;
 /// A piece of a text.
 #[derive(Clone, Copy)]
 pub(crate) enum Piece<'a> {
-    /// Plain text, which stands for itself.
+    /// Plain text, which is copied.
     Text(&'a str),
     /// What is between `$(` and `)`.
     Insert(&'a str),
 }
 
-/// How many parentheses are open, the first of them that of an insert.
+/// The number of open parentheses, the first of which belongs to an insert.
 #[derive(Clone, Copy)]
 pub(crate) struct Nesting {
     pub depth: usize,
     before: u8,
 }
 
-/// Outside of inserts.
+/// The nesting outside inserts.
 pub(crate) const OUTSIDE: Nesting = Nesting {
     depth: 0,
     before: b' ',
@@ -34,7 +34,7 @@ enum Turn {
 }
 
 impl Nesting {
-    // Counts the next byte of a text.
+    // Takes the next byte of a text.
     fn turn(&mut self, byte: u8) -> Turn {
         let before = self.before;
         self.before = byte;
@@ -54,7 +54,7 @@ impl Nesting {
         Turn::None
     }
 
-    /// Counts a line with its end.
+    /// Takes a line with its line end.
     pub fn add(&mut self, line: &str) {
         for byte in line.bytes() {
             let _ = self.turn(byte);
@@ -71,12 +71,12 @@ struct Cutter<'a> {
     nesting: Nesting,
     // Where the next piece begins.
     start: usize,
-    // Whether the line has to end here, and its end is left out.
+    // Whether the line has to end here, without its line end in the result.
     joins: bool,
 }
 
 impl<'a> Cutter<'a> {
-    // Takes the byte of an index.
+    // Takes the byte at an index.
     fn take(&mut self, at: usize, byte: u8) -> Result<(), Fault> {
         let turn = self.nesting.turn(byte);
         if self.joins {
@@ -107,7 +107,8 @@ impl<'a> Cutter<'a> {
     }
 }
 
-/// The pieces of a text. `$()` is no piece, nor are `$(join)` and the end of its line.
+/// Cuts a text into pieces. `$()` makes no piece, nor do `$(join)` and the line end after it. `Open`: an insert is not
+/// closed. `Join`: a line continues after `$(join)`.
 pub(crate) fn cut<'a>(alloc: Global, text: &'a str) -> Result<Vec<Piece<'a>>, Fault> {
     let mut cutter = Cutter {
         text,

@@ -1,11 +1,11 @@
-//! The report: a few lines for each case that does not hold, and the counts. The suite (bb_cases) adds cases to it.
+//! The report: a few lines for every case that does not hold, and the counts. The suite (bb_cases) adds cases to it.
 
 use crate::difference::Difference;
 use crate::fault::Fault;
 use std::alloc::{AllocError, Global};
 use std::fmt::Write;
 
-/// Where a case stands.
+/// Where a case is.
 #[derive(Clone, Copy)]
 pub struct Spot<'a> {
     /// The name of the file.
@@ -18,7 +18,7 @@ pub struct Spot<'a> {
     pub wrong: bool,
 }
 
-/// The lines of the report so far, and how many cases there were.
+/// The lines of the report so far, and the counts of cases.
 #[derive(Drop)]
 pub struct Report {
     /// The lines that are not printed yet.
@@ -29,7 +29,7 @@ pub struct Report {
 }
 
 impl Report {
-    /// No cases so far.
+    /// Makes a report without cases.
     pub fn new(alloc: Global) -> Report {
         Report {
             text: String::new(alloc),
@@ -39,7 +39,7 @@ impl Report {
         }
     }
 
-    /// Adds what came of a case. One that is marked as wrong has to differ.
+    /// Adds the outcome of a case. A case marked as wrong has to differ.
     pub fn add(
         &mut self,
         spot: Spot<'_>,
@@ -75,7 +75,7 @@ impl Report {
         writeln!(self.text, "\n    wanted {wanted}\n    given  {given}")
     }
 
-    /// Whether there are cases, and all of them hold.
+    /// Returns whether there are cases that hold, and none fails.
     pub fn all_hold(&self) -> bool {
         self.held > 0 && self.failed == 0
     }

@@ -1,5 +1,5 @@
-//! The rows of a table: each a line, perhaps with more lines where an insert goes on, and lines below it that are
-//! indented further. Tables (bb_cases) compare them.
+//! The rows of a table. A row is a line, with more lines if an insert continues, and the lines below it that are
+//! indented further. Tables (bb_cases) compare rows.
 
 use crate::fault::Fault;
 use crate::parts::{Line, Part};
@@ -12,12 +12,12 @@ pub struct Row {
     /// The number of the row's line in the file.
     pub number: usize,
     text: String,
-    /// The lines below the row, each with its end.
+    /// The lines below the row, each with its line end.
     pub below: String,
 }
 
 impl Row {
-    /// What is before the first `|` and what is after it, without the spaces around it.
+    /// Returns what is before the first `|` and what is after it, without the space around it. `Row`: there is no `|`.
     pub fn sides(&self) -> Result<(&str, &str), Fault> {
         let (front, back) = self.text.split_once('|').ok_or(Fault::Row)?;
         Ok((
@@ -35,7 +35,7 @@ fn row_of(alloc: Global, line: &Line<'_>) -> Result<Row, AllocError> {
     })
 }
 
-/// The rows of a part.
+/// Returns the rows of a part. `Row`: lines are above the first row.
 pub fn rows_of(alloc: Global, part: &Part<'_>) -> Result<Vec<Row>, Fault> {
     let mut rows: Vec<Row> = Vec::new(alloc);
     let mut nesting = OUTSIDE;

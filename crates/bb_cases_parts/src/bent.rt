@@ -1,8 +1,9 @@
-//! What lies next to a code: its fronts, and the bytes that differ from its own in one. Cases of codes ask for it.
+//! The neighbours of a code: its prefixes, and the bytes that differ from its own in one byte. Cases of codes ask for
+//! them.
 
 use crate::executions::add_on_scene;
+use crate::machines::Asked;
 use bb_cases_format::{Code, CodeFault, Fault, Scene};
-use bb_cases_machines::Asked;
 use bb_schema::Schema;
 use bb_verify::{Flaw, Part, VerifyFault, verify};
 use std::alloc::Global;
@@ -19,8 +20,8 @@ pub(crate) struct Bending<'a> {
 }
 
 impl Bending<'_> {
-    /// Appends how many fronts a code has and how many other values its bytes, and before that a line for each front that
-    /// is not too short, and for each other value that something else comes of than should.
+    /// Appends a line for each prefix that is not too short and for each changed byte with a wrong outcome, and then
+    /// how many prefixes the code has, and how many variants with another byte.
     pub fn add(self, text: &mut String, code: &Code) -> Result<(), Fault> {
         let bytes = code.encode(self.alloc)?;
         let mut others = 0u64;
@@ -36,7 +37,7 @@ impl Bending<'_> {
         Ok(())
     }
 
-    // Tries each other value of the byte at a place, and returns how many there are.
+    // Tries every other value of the byte at an index, and returns how many there are.
     fn add_others(self, text: &mut String, bytes: &[u8], place: usize) -> Result<u64, Fault> {
         let mut bent = bytes.to_vec(self.alloc)?;
         let mut others = 0u64;
@@ -57,8 +58,8 @@ impl Bending<'_> {
         Ok(others)
     }
 
-    // Appends what may not come of bytes: they are no code, or spell the code that they are read as; and an accepted code
-    // is never stuck, and both machines execute it alike.
+    // Appends what is wrong with the outcome of bytes. Right is: they are not a code, or are the encoding of the code
+    // they decode to; and an accepted code is never stuck, and both machines execute it alike.
     fn add_wrong(self, lines: &mut String, bytes: &[u8]) -> Result<(), Fault> {
         let code = match Code::decode(self.alloc, bytes) {
             Ok(code) => code,
@@ -80,7 +81,7 @@ impl Bending<'_> {
         }
     }
 
-    // Appends the lines of an execution that none of an accepted code has.
+    // Appends the lines of an execution that no accepted code may have.
     fn add_wrong_ends(self, lines: &mut String, code: &Code) -> Result<(), Fault> {
         let mut ended = String::new(self.alloc);
         add_on_scene(self.alloc, &mut ended, self.scene, code, self.asked)?;

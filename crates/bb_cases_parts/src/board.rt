@@ -5,12 +5,13 @@ use bb_cases_format::{Fault, Scene};
 use bb_schema::{Schema, UnitId};
 use std::alloc::Global;
 
-/// The schema of a document. The fault is `Schema` where it is none.
+/// Returns the schema of a document. `Schema`: it is not one.
 pub fn schema_of(alloc: Global, document: &str) -> Result<Schema, Fault> {
     Schema::read(alloc, document).ok().ok_or(Fault::Schema)
 }
 
-/// The blackboard of a scene, without notes.
+/// Returns the blackboard of a scene, without notes. `Schema`, `Units`: the document is refused. `Delete`: the unit to
+/// delete does not exist.
 pub(crate) fn board_of(alloc: Global, scene: &Scene) -> Result<Board, Fault> {
     let schema = schema_of(alloc, scene.schema.as_str())?;
     let units = match &scene.units {
@@ -24,7 +25,7 @@ pub(crate) fn board_of(alloc: Global, scene: &Scene) -> Result<Board, Fault> {
     }
 }
 
-// A blackboard of first units, without notes.
+// Returns a blackboard with initial units, without notes.
 fn loaded(alloc: Global, schema: Schema, units: &str) -> Option<Board> {
     let mut board = Board::new(alloc, schema).ok()?;
     if board.fresh() {
@@ -34,7 +35,7 @@ fn loaded(alloc: Global, schema: Schema, units: &str) -> Option<Board> {
     Some(board)
 }
 
-// The blackboard without a unit, if the unit is there.
+// Returns the blackboard without a unit, if the unit exists.
 fn without(board: Board, unit: UnitId) -> Option<Board> {
     let mut board = board;
     if !board.live(unit) {

@@ -1,11 +1,11 @@
 //! The execution of a code on the blackboard of a scene, for cases of codes and tables of runs.
 
 use crate::board::board_of;
+use crate::machines::{Asked, Boards, Entry, add_execution};
 use bb_cases_format::{Code, Fault, Scene, number};
-use bb_cases_machines::{Asked, Boards, Entry, add_execution};
 use std::alloc::Global;
 
-/// The units of an entry, `N` or `N:M`. The fault is `Number` where one is none.
+/// Returns the units of an entry, `N` or `N:M`. `Number`: one is not a number.
 pub fn entry_of(word: &str) -> Result<Entry, Fault> {
     let (it, ev) = match word.split_once(':') {
         None => (word, None),
@@ -15,7 +15,7 @@ pub fn entry_of(word: &str) -> Result<Entry, Fault> {
     Ok(Entry { it, ev })
 }
 
-/// Executes a code on a blackboard of a scene, and appends how it ends and the lines of its notes.
+/// Executes a code on the blackboard of a scene, and appends how it ends and the lines of its notes.
 pub fn add_on_scene(
     alloc: Global,
     text: &mut String,

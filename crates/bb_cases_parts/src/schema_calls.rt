@@ -1,4 +1,4 @@
-//! The calls of schemas, as lines ask for them. Cases of schemas (schemas.rt) write their answers.
+//! The calls of schemas, as lines ask for them. Cases of schemas (schemas.rt) write their results.
 
 use bb_cases_format::{Fault, number};
 use bb_schema::{CoupleId, Dim, Kind, Link, Schema, Side, SlotId, Value};
@@ -20,7 +20,8 @@ pub(crate) enum Answer<'a> {
     Dims(&'a [Dim]),
 }
 
-/// The answer of a call, with the words after its name.
+/// Returns the result of a call, given the words after its name. `Call`: there is no such call. `Number`: a word is not
+/// a number.
 pub(crate) fn answer_of<'a>(
     schema: &'a Schema,
     call: &str,
@@ -54,7 +55,7 @@ pub(crate) fn answer_of<'a>(
     })
 }
 
-// The answer of a call that needs an entry of this number: no number if there is no such entry.
+// Returns the result of a call that needs an entry with this number; no number if there is no such entry.
 fn entry_answer<'a>(schema: &'a Schema, call: &str, entry: u16) -> Result<Answer<'a>, Fault> {
     let at = usize::from(entry);
     Ok(match call {
@@ -78,7 +79,7 @@ fn entry_answer<'a>(schema: &'a Schema, call: &str, entry: u16) -> Result<Answer
     })
 }
 
-/// Appends a space and an answer.
+/// Appends a space and a result.
 pub(crate) fn add_answer(
     alloc: Global,
     text: &mut String,
@@ -131,7 +132,7 @@ fn add_slots(text: &mut String, slots: &[SlotId]) -> Result<(), AllocError> {
     Ok(())
 }
 
-// Appends dimensions: the name of an ordered one, and that of an enumerated one with its label set.
+// Appends dimensions: an ordered one by its name, an enumerated one by its name and label set.
 fn add_dims(text: &mut String, dims: &[Dim]) -> Result<(), AllocError> {
     for dim in dims {
         match dim.set {

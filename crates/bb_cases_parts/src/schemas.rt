@@ -1,11 +1,11 @@
-//! Documents of schemas, and what the calls of a schema return. The suite calls it for a case.
+//! Documents of schemas, and what the calls of a schema return. The suite calls this for a case.
 
 use crate::schema_calls::{add_answer, answer_of};
 use bb_cases_format::{Difference, Entry, Fault, Scope, expanded_text};
 use bb_schema::{Schema, SchemaFault};
 use std::alloc::Global;
 
-// Appends a line with the call that it begins with, and its answer.
+// Appends a line with the call that it begins with, and the result.
 fn add_call(alloc: Global, text: &mut String, schema: &Schema, line: &str) -> Result<(), Fault> {
     let (asked, _) = line.split_once(" =").ok_or(Fault::Call)?;
     let (call, rest) = asked.split_once(' ').unwrap_or((asked, ""));
@@ -17,7 +17,7 @@ fn add_call(alloc: Global, text: &mut String, schema: &Schema, line: &str) -> Re
     Ok(())
 }
 
-// What the calls of the lines return, if the document is a schema; else its refusal.
+// Returns the results of the lines' calls, if the document is a schema, else its refusal.
 fn given(alloc: Global, document: &str, wanted: &str) -> Result<String, Fault> {
     let mut text = String::new(alloc);
     match Schema::read(alloc, document) {
@@ -36,7 +36,7 @@ fn given(alloc: Global, document: &str, wanted: &str) -> Result<String, Fault> {
     Ok(text)
 }
 
-/// Compares a case of a schema.
+/// Compares a case of a schema. Returns the first difference.
 pub fn compare_schema(
     alloc: Global,
     scope: Scope<'_>,

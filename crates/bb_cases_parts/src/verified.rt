@@ -1,20 +1,20 @@
-//! Codes are verified, and the verdict is written in lines; then they are executed, if a case asks for that.
+//! Verifies codes and writes the verdicts as lines; then executes the codes, if a case asks for that.
 
 use crate::bent::Bending;
 use crate::board::schema_of;
 use crate::executions::{add_on_scene, entry_of};
+use crate::machines::Asked;
 use bb_basis::Whole;
 use bb_cases_format::{
     Difference, Entry, Fault, Header, Kind, Names, Scene, Scope, code_of, expanded_text, number,
     write_kind,
 };
-use bb_cases_machines::Asked;
 use bb_schema::Schema;
 use bb_verify::{Checked, FOUND_LIMIT, Flaw, Frame, Part, VerifyFault, verify};
 use std::alloc::{AllocError, Global};
 use std::fmt::Write;
 
-// The part that a word is, as `do:1` or `obviate:1:2`.
+// Returns the part that a word names, such as `do:1` or `obviate:1:2`.
 fn part_of(word: Option<&str>) -> Result<Part, Fault> {
     let (name, classes) = word
         .and_then(|word| word.split_once(':'))
@@ -33,7 +33,7 @@ fn part_of(word: Option<&str>) -> Result<Part, Fault> {
     }
 }
 
-// Appends a line with the answer of the verifier.
+// Appends a line with the verdict.
 fn add_verdict(text: &mut String, answer: &Result<Checked, VerifyFault>) -> Result<(), AllocError> {
     match answer {
         Ok(_) => text.push_str("accepted\n"),
@@ -64,7 +64,7 @@ fn add_frame(text: &mut String, frame: &Frame) -> Result<(), AllocError> {
     text.push_str("\n")
 }
 
-// Appends the budget or the frame that the beginning of a line names.
+// Appends the budget or frame named at the start of a line.
 fn add_fact(text: &mut String, checked: &Checked, asked: &str) -> Result<(), Fault> {
     write!(text, "{asked} =")?;
     match asked.split_once(' ') {
@@ -99,7 +99,7 @@ fn add_facts(text: &mut String, checked: &Checked, wanted: &str) -> Result<(), F
     Ok(())
 }
 
-// Appends the verdict on the text of a code, and what of its facts is wanted.
+// Appends the verdict on the text of a code, and the wanted ones of its facts.
 fn add_answer(
     alloc: Global,
     lines: &mut String,
@@ -116,7 +116,7 @@ fn add_answer(
     }
 }
 
-// Appends how the execution of a code ends, and what lies next to it, if the header asks for that.
+// Appends how the execution of a code ends and, if the header asks for them, the code's neighbours.
 fn add_execution(
     lines: &mut String,
     header: &Header<'_>,
@@ -131,7 +131,7 @@ fn add_execution(
     Ok(())
 }
 
-// What comes of the text of a code, where these lines are wanted.
+// Returns the lines for the text of a code, given the wanted lines.
 fn given(
     alloc: Global,
     scene: &Scene,
@@ -161,7 +161,7 @@ fn given(
     Ok(lines)
 }
 
-// Whether a header asks for what lies next to its code.
+// Returns whether a header asks for the neighbours of its code.
 fn is_bent(header: &Header<'_>) -> Result<bool, Fault> {
     match header.option("bent") {
         None => Ok(false),
@@ -170,7 +170,7 @@ fn is_bent(header: &Header<'_>) -> Result<bool, Fault> {
     }
 }
 
-// What comes of the text of a code on the blackboard that a header names, or on an empty one.
+// Returns the lines for the text of a code, on the blackboard that a header names, or on an empty one.
 fn lines_of(
     alloc: Global,
     names: &Names,
@@ -189,7 +189,7 @@ fn lines_of(
     given(alloc, &scene.value, header, text, wanted)
 }
 
-/// Compares a case of a code.
+/// Compares a case of a code. Returns the first difference.
 pub fn compare_code(
     alloc: Global,
     names: &Names,

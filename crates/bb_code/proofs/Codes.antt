@@ -4,17 +4,17 @@ use Rattle.std.specs.Prelude.{IfOk, All}
 use Rattle.std.proofs.lemmas.Bool.{eqb-true}
 use Rattle.std.proofs.lemmas.List.{append-nil, nil_from_length}
 use Rattle.std.proofs.lemmas.List.Elements.{All-from_recursion, recursion_from_All}
-use Rattle.bb_code_ops.specs.Query.{Query}
+use Rattle.bb_pattern.specs.declared.query.Query.{Query}
 use Rattle.bb_code.specs.declared.fault.CodeFault.{CodeFault}
 use Rattle.bb_code.specs.declared.fault.CodeFault.TheVariants as faults
 use Rattle.bb_code.specs.declared.fault.CodeFault.TheVariants.{Magic, Trailing, Memory}
-use Rattle.bb_code_ops.specs.declared.parts.TheConstants.{LOCAL_LIMIT, TEXT_COUNT_LIMIT, QUERY_LIMIT, FRAME_LIMIT, LOOP_LIMIT, OP_LIMIT}
-use Rattle.bb_code_ops.specs.declared.frame.FrameEntry.{FrameEntry}
-use Rattle.bb_code_ops.specs.declared.frame.Loop.{Loop}
-use Rattle.bb_code_ops.specs.declared.op.Op.{Op}
-use Rattle.bb_code_ops.specs.declared.version.Version.{Version}
-use Rattle.bb_code_ops.specs.declared.version.Version.TheVariants.{One, Two}
-use Rattle.bb_code_ops.specs.Code.{Code, IsText, IsQuery, IsFrame, IsLoop, IsOp, IsCode}
+use Rattle.bb_code.specs.declared.parts.TheConstants.{LOCAL_LIMIT, TEXT_COUNT_LIMIT, QUERY_LIMIT, FRAME_LIMIT, LOOP_LIMIT, OP_LIMIT}
+use Rattle.bb_code.specs.declared.frame.FrameEntry.{FrameEntry}
+use Rattle.bb_code.specs.declared.frame.Loop.{Loop}
+use Rattle.bb_code.specs.declared.op.Op.{Op}
+use Rattle.bb_code.specs.declared.version.Version.{Version}
+use Rattle.bb_code.specs.declared.version.Version.TheVariants.{One, Two}
+use Rattle.bb_code.specs.Code.{Code, IsText, IsQuery, IsFrame, IsLoop, IsOp, IsCode}
 use Rattle.bb_code.specs.Spelling.{text_bytes, query_bytes, frame_bytes, loop_bytes, op_bytes, listed, version_byte, head, spelling}
 use Rattle.bb_basis.specs.Results.{◌>>=◌, Gives}
 use Rattle.bb_code.specs.Fields.{Field, short_count_at, list_at, text_at, frame_at, loop_at}

@@ -11,7 +11,7 @@ use Rattle.std.proofs.Math.Facts.{sfits_to_z, Fits-of_z}
 use Rattle.std.proofs.lemmas.Str.{IsUtf8-from_is_utf8, is_utf8-from_IsUtf8}
 use Rattle.bb_code.specs.declared.fault.CodeFault.{CodeFault}
 use Rattle.bb_code.specs.declared.fault.CodeFault.TheVariants.{Short, Limit, Operand}
-use Rattle.bb_code_ops.specs.Code.{IsText}
+use Rattle.bb_code.specs.Code.{IsText}
 use Rattle.bb_code.specs.Spelling.{two_bytes, eight_bytes, bool_byte, text_bytes}
 use Rattle.bb_basis.specs.Results.{◌>>=◌}
 use Rattle.bb_basis.proofs.ResultLemmas.{bind_ok, guard_ok, same_ok}

@@ -4,17 +4,17 @@ use Rattle.std.specs.List.{flat_map, slice_get}
 use Rattle.std.proofs.lemmas.List.Elements.{All-from_recursion, recursion_from_All}
 use Rattle.bb_basis.specs.Results.{◌>>=◌, ok_or}
 use Rattle.bb_basis.proofs.ResultLemmas.{bind_ok, same_ok, ok_or_ok}
-use Rattle.bb_code_ops.specs.declared.parts.TheConstants.{STACK_LIMIT}
+use Rattle.bb_code.specs.declared.parts.TheConstants.{STACK_LIMIT}
 use Rattle.bb_code.specs.declared.fault.CodeFault.{CodeFault}
 use Rattle.bb_code.specs.declared.fault.CodeFault.TheVariants.{Operand}
-use Rattle.bb_code_ops.specs.declared.frame.FrameEntry.{FrameEntry}
-use Rattle.bb_code_ops.specs.declared.frame.Kind.{Kind}
-use Rattle.bb_code_ops.specs.declared.frame.Kind.TheVariants as kinds
-use Rattle.bb_code_ops.specs.declared.frame.Loop.{Loop}
+use Rattle.bb_code.specs.declared.frame.FrameEntry.{FrameEntry}
+use Rattle.bb_code.specs.declared.frame.Kind.{Kind}
+use Rattle.bb_code.specs.declared.frame.Kind.TheVariants as kinds
+use Rattle.bb_code.specs.declared.frame.Loop.{Loop}
 use Rattle.bb_code.specs.declared.table.KindForm.{KindForm}
 use Rattle.bb_code.specs.declared.table.KindForm.TheVariants as forms
 use Rattle.bb_code.specs.declared.table.TheConstants.{KINDS}
-use Rattle.bb_code_ops.specs.Code.{IsKind, IsFrame, IsLoop}
+use Rattle.bb_code.specs.Code.{IsKind, IsFrame, IsLoop}
 use Rattle.bb_code.specs.Spelling.{two_bytes, short_listed, kind_bytes, frame_bytes, loop_bytes}
 use Rattle.bb_code.specs.Fields.{number_at, repeated, short_list_at, kind_after, kind_at, frame_at, loop_at}
 use Rattle.bb_code.proofs.Fields.{IsBytes, IsBytes-rest, Takes, Takes-then, IsSpelled, Number, number_spelled, one_takes, one_again, two_takes, two_again}

@@ -1,6 +1,6 @@
 pub mod Turns
 pub mod PatternTurns
-pub mod Parts
+pub mod PartsLemmas
 pub mod Tables
 pub mod Fields
 pub mod Lists
@@ -9,3 +9,5 @@ pub mod OpLaws
 pub mod PatternLaws
 pub mod Codes
 pub mod Laws
+pub mod OpsLaws
+pub mod Limits

@@ -8,18 +8,18 @@ use Rattle.std.proofs.lemmas.Option.{option_and_then_some}
 use Rattle.std.proofs.lemmas.Int.{ints}
 use Rattle.bb_basis.specs.Results.{◌>>=◌, ok_or}
 use Rattle.bb_basis.proofs.ResultLemmas.{bind_ok, guard_ok, same_ok, ok_or_ok}
-use Rattle.bb_code_ops.specs.declared.parts.TheConstants.{SAID_LIMIT}
+use Rattle.bb_code.specs.declared.parts.TheConstants.{SAID_LIMIT}
 use Rattle.bb_code.specs.declared.fault.CodeFault.{CodeFault}
 use Rattle.bb_code.specs.declared.fault.CodeFault.TheVariants.{Opcode, Operand}
-use Rattle.bb_code_ops.specs.declared.op.Bound.TheVariants.{Low, High}
-use Rattle.bb_code_ops.specs.declared.op.Calculation.TheVariants.{Add, Sub, Mul, Min, Max}
-use Rattle.bb_code_ops.specs.declared.op.Comparison.TheVariants.{Lt, Le, EqInt}
-use Rattle.bb_code_ops.specs.declared.op.Division.{Division}
-use Rattle.bb_code_ops.specs.declared.op.Division.TheVariants.{DivBy, ModBy}
-use Rattle.bb_code_ops.specs.declared.op.LinkChange.TheVariants as changes
-use Rattle.bb_code_ops.specs.declared.op.Logic.TheVariants as logic
-use Rattle.bb_code_ops.specs.declared.op.Op.{Op}
-use Rattle.bb_code_ops.specs.declared.op.Op.TheVariants as ops
+use Rattle.bb_code.specs.declared.op.Bound.TheVariants.{Low, High}
+use Rattle.bb_code.specs.declared.op.Calculation.TheVariants.{Add, Sub, Mul, Min, Max}
+use Rattle.bb_code.specs.declared.op.Comparison.TheVariants.{Lt, Le, EqInt}
+use Rattle.bb_code.specs.declared.op.Division.{Division}
+use Rattle.bb_code.specs.declared.op.Division.TheVariants.{DivBy, ModBy}
+use Rattle.bb_code.specs.declared.op.LinkChange.TheVariants as changes
+use Rattle.bb_code.specs.declared.op.Logic.TheVariants as logic
+use Rattle.bb_code.specs.declared.op.Op.{Op}
+use Rattle.bb_code.specs.declared.op.Op.TheVariants as ops
 use Rattle.bb_code.specs.declared.table.Branch.{Branch}
 use Rattle.bb_code.specs.declared.table.Branch.TheVariants as branches
 use Rattle.bb_code.specs.declared.table.Numbered.{Numbered}
@@ -27,7 +27,7 @@ use Rattle.bb_code.specs.declared.table.Numbered.TheVariants as numbered
 use Rattle.bb_code.specs.declared.table.OpForm.{OpForm}
 use Rattle.bb_code.specs.declared.table.OpForm.TheVariants as forms
 use Rattle.bb_code.specs.declared.table.TheConstants.{OPS}
-use Rattle.bb_code_ops.specs.Code.{IsOp}
+use Rattle.bb_code.specs.Code.{IsOp}
 use Rattle.bb_code.specs.Spelling.{two_bytes, eight_bytes, opcode, op_bytes}
 use Rattle.bb_code.specs.Fields.{byte_at, number_at, int_at, bool_at}
 use Rattle.bb_code.specs.Ops.{op_form, with_number, with_local, with_pair, push_label_at, branch_at, divide_at, say_at, next_at, op_after, op_at}

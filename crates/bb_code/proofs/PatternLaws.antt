@@ -5,19 +5,19 @@ use Rattle.std.proofs.lemmas.Bool.{eqb-true}
 use Rattle.std.proofs.lemmas.List.Elements.{All-from_recursion, recursion_from_All}
 use Rattle.bb_basis.specs.Results.{◌>>=◌, ok_or}
 use Rattle.bb_basis.proofs.ResultLemmas.{bind_ok, same_ok, ok_or_ok}
-use Rattle.bb_code_ops.specs.PatternLimits.{NODE_LIMIT, OPERAND_LIMIT}
-use Rattle.bb_code_ops.specs.Query.{Query}
-use Rattle.bb_code_ops.specs.Relation.TheVariants as relations
-use Rattle.bb_code_ops.specs.OperandKind.{OperandKind}
-use Rattle.bb_code_ops.specs.OperandKind.TheVariants as operand_kinds
-use Rattle.bb_code_ops.specs.Trees.{Tree, Trees, all, and_of, or_of, not_of, ordered, is_label, no_more, more, node_count, nodes_count}
-use Rattle.bb_code_ops.specs.View.{trees_of}
+use Rattle.bb_pattern.specs.declared.fits.TheConstants.{NODE_LIMIT, OPERAND_LIMIT}
+use Rattle.bb_pattern.specs.declared.query.Query.{Query}
+use Rattle.bb_pattern.specs.declared.pattern.Relation.TheVariants as relations
+use Rattle.bb_pattern.specs.declared.value.OperandKind.{OperandKind}
+use Rattle.bb_pattern.specs.declared.value.OperandKind.TheVariants as operand_kinds
+use Rattle.bb_pattern.specs.Trees.{Tree, Trees, all, and_of, or_of, not_of, ordered, is_label, no_more, more, node_count, nodes_count}
+use Rattle.bb_pattern.specs.View.{trees_of}
 use Rattle.bb_code.specs.declared.fault.CodeFault.{CodeFault}
 use Rattle.bb_code.specs.declared.fault.CodeFault.TheVariants.{Operand}
 use Rattle.bb_code.specs.declared.table.NodeForm.{NodeForm}
 use Rattle.bb_code.specs.declared.table.NodeForm.TheVariants as forms
 use Rattle.bb_code.specs.declared.table.TheConstants.{NODES}
-use Rattle.bb_code_ops.specs.Code.{IsTree, AreTrees, IsOperandKind, IsQuery, InByte}
+use Rattle.bb_code.specs.Code.{IsTree, AreTrees, IsOperandKind, IsQuery, InByte}
 use Rattle.bb_code.specs.Spelling.{two_bytes, short_listed, operand_kind_bytes, relation_byte, part_count, tree_bytes, trees_bytes, query_bytes}
 use Rattle.bb_code.specs.Fields.{byte_at, number_at, repeated, short_list_at}
 use Rattle.bb_code.specs.Patterns.{operand_kind_at, label_at, Ahead, Reader, parts_at, test_at, node_after, node_at, pattern_at, query_at}

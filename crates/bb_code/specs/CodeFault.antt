@@ -1,10 +1,10 @@
--- The faults of bytes that are no code.
+-- The faults of bytes that are not a code.
 use Rattle.std.specs.Prelude.{ℕ}
 use Rattle.bb_code.specs.declared.fault.CodeFault.{CodeFault}
 use Rattle.bb_code.specs.declared.fault.CodeFault.TheVariants.{Magic, Version, Short, Opcode, Operand, Limit, Trailing}
 use Rattle.bb_code.specs.declared.fault.CodeFault.TheVariants.{Memory}
 
--- the number by which refusals name each fault
+-- the number of each fault in refusals
 abbrev pub fault_number : CodeFault → ℕ
 fault_number Magic = 1
 fault_number Version = 2

@@ -1,22 +1,22 @@
--- Reading one field at the front of bytes. Each field gives a value and the bytes after it, or the first fault.
+-- Reading one field at the start of bytes. Each field gives a value and the bytes after it, or the first fault.
 use Rattle.std.specs.Prelude.{ℕ, zero, suc, ℤ, Bool, true, false, List, [], ◌∷◌, length, take, drop, Result, Ok}
 use Rattle.std.specs.Prelude.{Err, nat_lt, ◌==◌}
 use Rattle.std.specs.Prelude.{if◌then◌else◌, slice_get}
 use Rattle.std.specs.Int.{w16, w64, from_be_bytes, cast_signed}
 use Rattle.std.specs.Str.{is_utf8}
 use Rattle.bb_basis.specs.Results.{◌>>=◌, ok_or}
-use Rattle.bb_code_ops.specs.declared.parts.TheConstants.{STACK_LIMIT}
+use Rattle.bb_code.specs.declared.parts.TheConstants.{STACK_LIMIT}
 use Rattle.bb_code.specs.declared.fault.CodeFault.{CodeFault}
 use Rattle.bb_code.specs.declared.fault.CodeFault.TheVariants.{Short, Operand, Limit}
-use Rattle.bb_code_ops.specs.declared.frame.FrameEntry.{FrameEntry}
-use Rattle.bb_code_ops.specs.declared.frame.Kind.{Kind}
-use Rattle.bb_code_ops.specs.declared.frame.Kind.TheVariants as kinds
-use Rattle.bb_code_ops.specs.declared.frame.Loop.{Loop}
+use Rattle.bb_code.specs.declared.frame.FrameEntry.{FrameEntry}
+use Rattle.bb_code.specs.declared.frame.Kind.{Kind}
+use Rattle.bb_code.specs.declared.frame.Kind.TheVariants as kinds
+use Rattle.bb_code.specs.declared.frame.Loop.{Loop}
 use Rattle.bb_code.specs.declared.table.KindForm.{KindForm}
 use Rattle.bb_code.specs.declared.table.KindForm.TheVariants as forms
 use Rattle.bb_code.specs.declared.table.TheConstants.{KINDS}
 
--- what a field of values in A is
+-- a field of values in A
 abbrev pub Field : Type 0 → Type 0
 Field A = List ℕ → Result (A × List ℕ) CodeFault
 
@@ -47,7 +47,7 @@ bool_at bytes = do
 
 -- ---- lists
 
--- a number that was read, if it is from low to high
+-- the number that was read, if it is from low to high
 abbrev pub within : ℕ → ℕ → ℕ × List ℕ → Result (ℕ × List ℕ) CodeFault
 within low high n = if nat_lt n.0 low then Err Limit else (if nat_lt high n.0 then Err Limit else Ok n)
 
@@ -59,7 +59,7 @@ count_at low high bytes = number_at bytes >>= within low high
 unfoldable pub short_count_at : ℕ → ℕ → Field ℕ
 short_count_at low high bytes = byte_at bytes >>= within low high
 
--- as many values as the number says, one after another, from what is still to be read
+-- a number of values, read in sequence from a state: the input still to be read
 unfoldable pub repeated : {A S : Type 0} → (S → Result (A × S) CodeFault) → ℕ → S → Result (List A × S) CodeFault
 repeated one zero at = Ok ([], at)
 repeated one (suc n) at = do
@@ -67,13 +67,13 @@ repeated one (suc n) at = do
   others ← repeated one n first.1
   Ok (first.0 ∷ others.0, others.1)
 
--- a count from low to high in two bytes, and as many fields
+-- a count from low to high in two bytes, and then that number of fields
 unfoldable pub list_at : {A : Type 0} → ℕ → ℕ → Field A → Field (List A)
 list_at low high field bytes = do
   n ← count_at low high bytes
   repeated field n.0 n.1
 
--- a count up to high in one byte, and as many fields
+-- a count up to high in one byte, and then that number of fields
 unfoldable pub short_list_at : {A : Type 0} → ℕ → Field A → Field (List A)
 short_list_at high field bytes = do
   n ← short_count_at 0 high bytes

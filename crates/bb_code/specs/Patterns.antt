@@ -1,12 +1,12 @@
--- Reading a query and its pattern at the front of bytes.
+-- Reading a query and its pattern at the start of bytes.
 use Rattle.std.specs.Prelude.{ℕ, zero, suc, List, Result, Ok, Err, ◌==◌, if◌then◌else◌, slice_get}
 use Rattle.bb_basis.specs.Results.{◌>>=◌, ok_or}
-use Rattle.bb_code_ops.specs.PatternLimits.{NODE_LIMIT, OPERAND_LIMIT}
-use Rattle.bb_code_ops.specs.Query.{Query}
-use Rattle.bb_code_ops.specs.OperandKind.{OperandKind}
-use Rattle.bb_code_ops.specs.OperandKind.TheVariants.{Interval, Label}
-use Rattle.bb_code_ops.specs.Trees.{Tree, all, and_of, or_of, not_of, ordered, is_label}
-use Rattle.bb_code_ops.specs.View.{trees_of}
+use Rattle.bb_pattern.specs.declared.fits.TheConstants.{NODE_LIMIT, OPERAND_LIMIT}
+use Rattle.bb_pattern.specs.declared.query.Query.{Query}
+use Rattle.bb_pattern.specs.declared.value.OperandKind.{OperandKind}
+use Rattle.bb_pattern.specs.declared.value.OperandKind.TheVariants.{Interval, Label}
+use Rattle.bb_pattern.specs.Trees.{Tree, all, and_of, or_of, not_of, ordered, is_label}
+use Rattle.bb_pattern.specs.View.{trees_of}
 use Rattle.bb_code.specs.declared.fault.CodeFault.{CodeFault}
 use Rattle.bb_code.specs.declared.fault.CodeFault.TheVariants.{Operand, Limit}
 use Rattle.bb_code.specs.declared.table.NodeForm.{NodeForm}
@@ -20,22 +20,22 @@ label_at bytes = do
   set ← number_at bytes
   Ok (Label set.0, set.1)
 
--- what an operand has to be
+-- the kind that an operand must have
 unfoldable pub operand_kind_at : Field OperandKind
 operand_kind_at bytes = do
   tag ← byte_at bytes
   if tag.0 == 0 then Ok (Interval, tag.1) else
       (if tag.0 == 1 then label_at tag.1 else Err Operand)
 
--- how many nodes a pattern may still have, and the bytes that are left
+-- the number of nodes that a pattern may still have, and the bytes that are left
 abbrev pub Ahead : Type 0
 Ahead = ℕ × List ℕ
 
--- what reads one pattern
+-- a reader of one pattern
 abbrev pub Reader : Type 0
 Reader = Ahead → Result (Tree × Ahead) CodeFault
 
--- the parts of a node: their number, and as many patterns
+-- the parts of a node: their number, and then that number of patterns
 unfoldable pub parts_at : Reader → Ahead → Result (List Tree × Ahead) CodeFault
 parts_at part at = do
   count ← byte_at at.1
@@ -48,7 +48,7 @@ test_at test at = do
   operand ← byte_at dim.1
   Ok (test dim.0 operand.0, (at.0, operand.1))
 
--- what follows the byte of a node, whose parts are read by part
+-- what follows the byte of a node, if `part` reads its parts
 unfoldable pub node_after : Reader → NodeForm → Reader
 node_after part forms.All at = Ok (all, at)
 node_after part forms.And at = do
@@ -70,13 +70,13 @@ node_at part at = do
   form ← ok_or (slice_get NODES tag.0) Operand
   node_after part form (at.0, tag.1)
 
--- a pattern, which is no deeper than the first number says
+-- a pattern of at most as many levels as the first number
 unfoldable pub pattern_at : ℕ → Reader
 pattern_at zero at = Err Limit
 pattern_at (suc depth) (zero, bytes) = Err Limit
 pattern_at (suc depth) (suc room, bytes) = node_at (pattern_at depth) (room, bytes)
 
--- a query: class, space, operands, and a pattern. No pattern is deeper than it has nodes.
+-- a query: class, space, operands and pattern; no pattern has more levels than nodes
 unfoldable pub query_at : Field Query
 query_at bytes = do
   class ← number_at bytes

@@ -1,19 +1,19 @@
--- Reading a code from the front, with the first fault.
+-- Reading a code from its start, with the first fault.
 use Rattle.std.specs.Prelude.{ℕ, List, [], ◌∷◌, length, Result, Ok, Err, ◌==◌, if◌then◌else◌}
 use Rattle.bb_basis.specs.Results.{◌>>=◌}
-use Rattle.bb_code_ops.specs.declared.parts.TheConstants.{LOCAL_LIMIT, TEXT_COUNT_LIMIT, QUERY_LIMIT, FRAME_LIMIT}
-use Rattle.bb_code_ops.specs.declared.parts.TheConstants.{LOOP_LIMIT, OP_LIMIT}
+use Rattle.bb_code.specs.declared.parts.TheConstants.{LOCAL_LIMIT, TEXT_COUNT_LIMIT, QUERY_LIMIT, FRAME_LIMIT}
+use Rattle.bb_code.specs.declared.parts.TheConstants.{LOOP_LIMIT, OP_LIMIT}
 use Rattle.bb_code.specs.declared.fault.CodeFault.{CodeFault}
 use Rattle.bb_code.specs.declared.fault.CodeFault.TheVariants as faults
 use Rattle.bb_code.specs.declared.fault.CodeFault.TheVariants.{Magic, Short, Trailing}
-use Rattle.bb_code_ops.specs.declared.version.Version.{Version}
-use Rattle.bb_code_ops.specs.declared.version.Version.TheVariants.{One, Two}
-use Rattle.bb_code_ops.specs.Code.{Code}
+use Rattle.bb_code.specs.declared.version.Version.{Version}
+use Rattle.bb_code.specs.declared.version.Version.TheVariants.{One, Two}
+use Rattle.bb_code.specs.Code.{Code}
 use Rattle.bb_code.specs.Fields.{Field, byte_at, list_at, short_count_at, text_at, frame_at, loop_at}
 use Rattle.bb_code.specs.Patterns.{query_at}
 use Rattle.bb_code.specs.Ops.{op_at}
 
--- one byte that is the same in every code
+-- a byte that is the same in every code
 abbrev pub expected_at : ℕ → CodeFault → List ℕ → Result (List ℕ) CodeFault
 expected_at wanted fault [] = Err Short
 expected_at wanted fault (b ∷ rest) = if b == wanted then Ok rest else Err fault
@@ -55,7 +55,7 @@ code_at bytes = do
     ops.1,
   )
 
--- a code that takes all of the bytes
+-- a code that uses up all of the bytes
 unfoldable pub code_of : List ℕ → Result Code CodeFault
 code_of bytes = do
   code ← code_at bytes

@@ -2,32 +2,32 @@
 use Rattle.std.specs.Prelude.{ℕ, suc, ℤ, Bool, true, false, List, [], ◌∷◌, ◌++◌, length}
 use Rattle.std.specs.List.{flat_map}
 use Rattle.std.specs.Int.{w16, w64, to_be_bytes, cast_unsigned}
-use Rattle.bb_code_ops.specs.declared.frame.FrameEntry.{FrameEntry}
-use Rattle.bb_code_ops.specs.declared.frame.Kind.{Kind}
-use Rattle.bb_code_ops.specs.declared.frame.Kind.TheVariants as kinds
-use Rattle.bb_code_ops.specs.declared.frame.Loop.{Loop}
-use Rattle.bb_code_ops.specs.declared.op.Bound.TheVariants.{Low, High}
-use Rattle.bb_code_ops.specs.declared.op.Calculation.TheVariants.{Add, Sub, Mul, Min, Max}
-use Rattle.bb_code_ops.specs.declared.op.Comparison.TheVariants.{Lt, Le, EqInt}
-use Rattle.bb_code_ops.specs.declared.op.Division.TheVariants.{DivBy, ModBy}
-use Rattle.bb_code_ops.specs.declared.op.LinkChange.TheVariants as changes
-use Rattle.bb_code_ops.specs.declared.op.Logic.TheVariants as logic
-use Rattle.bb_code_ops.specs.declared.op.Op.{Op}
-use Rattle.bb_code_ops.specs.declared.op.Op.TheVariants.{PushInt, PushText, PushBool, PushLabel, Load, Store, Pop, Calculate}
-use Rattle.bb_code_ops.specs.declared.op.Op.TheVariants.{Divide, Compare, EqText, EqLabel, EqUnit, Not, Combine}
-use Rattle.bb_code_ops.specs.declared.op.Op.TheVariants.{MakeInterval}
-use Rattle.bb_code_ops.specs.declared.op.Op.TheVariants.{BoundOf, Get, One, Links, Find, Size, Alive, As, New, Set, Relink}
-use Rattle.bb_code_ops.specs.declared.op.Op.TheVariants.{Enter, Leave, Delete, Say, Jump, Unless, Next, Back, Done, Rate}
-use Rattle.bb_code_ops.specs.declared.op.Op.TheVariants.{Decline, Answer}
-use Rattle.bb_code_ops.specs.Relation.{Relation}
-use Rattle.bb_code_ops.specs.Relation.TheVariants as relations
-use Rattle.bb_code_ops.specs.Query.{Query}
-use Rattle.bb_code_ops.specs.OperandKind.{OperandKind}
-use Rattle.bb_code_ops.specs.OperandKind.TheVariants as operand_kinds
-use Rattle.bb_code_ops.specs.Trees.{Tree, Trees, all, and_of, or_of, not_of, ordered, is_label, no_more, more}
-use Rattle.bb_code_ops.specs.declared.version.Version.{Version}
-use Rattle.bb_code_ops.specs.declared.version.Version.TheVariants as versions
-use Rattle.bb_code_ops.specs.Code.{Code}
+use Rattle.bb_code.specs.declared.frame.FrameEntry.{FrameEntry}
+use Rattle.bb_code.specs.declared.frame.Kind.{Kind}
+use Rattle.bb_code.specs.declared.frame.Kind.TheVariants as kinds
+use Rattle.bb_code.specs.declared.frame.Loop.{Loop}
+use Rattle.bb_code.specs.declared.op.Bound.TheVariants.{Low, High}
+use Rattle.bb_code.specs.declared.op.Calculation.TheVariants.{Add, Sub, Mul, Min, Max}
+use Rattle.bb_code.specs.declared.op.Comparison.TheVariants.{Lt, Le, EqInt}
+use Rattle.bb_code.specs.declared.op.Division.TheVariants.{DivBy, ModBy}
+use Rattle.bb_code.specs.declared.op.LinkChange.TheVariants as changes
+use Rattle.bb_code.specs.declared.op.Logic.TheVariants as logic
+use Rattle.bb_code.specs.declared.op.Op.{Op}
+use Rattle.bb_code.specs.declared.op.Op.TheVariants.{PushInt, PushText, PushBool, PushLabel, Load, Store, Pop, Calculate}
+use Rattle.bb_code.specs.declared.op.Op.TheVariants.{Divide, Compare, EqText, EqLabel, EqUnit, Not, Combine}
+use Rattle.bb_code.specs.declared.op.Op.TheVariants.{MakeInterval}
+use Rattle.bb_code.specs.declared.op.Op.TheVariants.{BoundOf, Get, One, Links, Find, Size, Alive, As, New, Set, Relink}
+use Rattle.bb_code.specs.declared.op.Op.TheVariants.{Enter, Leave, Delete, Say, Jump, Unless, Next, Back, Done, Rate}
+use Rattle.bb_code.specs.declared.op.Op.TheVariants.{Decline, Answer}
+use Rattle.bb_pattern.specs.declared.pattern.Relation.{Relation}
+use Rattle.bb_pattern.specs.declared.pattern.Relation.TheVariants as relations
+use Rattle.bb_pattern.specs.declared.query.Query.{Query}
+use Rattle.bb_pattern.specs.declared.value.OperandKind.{OperandKind}
+use Rattle.bb_pattern.specs.declared.value.OperandKind.TheVariants as operand_kinds
+use Rattle.bb_pattern.specs.Trees.{Tree, Trees, all, and_of, or_of, not_of, ordered, is_label, no_more, more}
+use Rattle.bb_code.specs.declared.version.Version.{Version}
+use Rattle.bb_code.specs.declared.version.Version.TheVariants as versions
+use Rattle.bb_code.specs.Code.{Code}
 
 -- ---- numbers and lists
 
@@ -60,7 +60,7 @@ text_bytes text = two_bytes (length text) ++ text
 
 -- ---- queries
 
--- what an operand has to be
+-- the kind that an operand must have
 abbrev pub operand_kind_bytes : OperandKind → List ℕ
 operand_kind_bytes operand_kinds.Interval = 0 ∷ []
 operand_kind_bytes (operand_kinds.Label set) = 1 ∷ two_bytes set
@@ -212,7 +212,7 @@ abbrev pub version_byte : Version → ℕ
 version_byte versions.One = 1
 version_byte versions.Two = 2
 
--- what every code begins with: the letters BBC, and its version
+-- the first bytes of every code: the letters BBC, and its version
 abbrev pub head : Version → List ℕ
 head version = 66 ∷ 66 ∷ 67 ∷ version_byte version ∷ []
 

@@ -1,10 +1,15 @@
-//! A code in memory. Whoever makes or executes codes (bb_bundle, bb_verify) calls it.
+//! A code in memory. bb_bundle makes codes, bb_verify checks them and the machine executes them.
 
 ghost use Rattle.std.specs.Prelude.{◌≡◌, ◌↔◌, IsSome, IfSome, slice_get};
-ghost use Rattle.bb_code_ops.specs.Code.{IsCode};
+ghost use Rattle.bb_code.specs.Code.{IsCode};
 
+use crate::Query;
+use crate::frame::{FrameEntry, Loop};
+use crate::op::Op;
+use crate::parts::CodeParts;
+use crate::version::Version;
+use crate::within::are_parts;
 use bb_basis::Text;
-use bb_code_ops::{CodeParts, FrameEntry, Loop, Op, Query, Version, are_parts};
 use std::marker::Model;
 
 /// A code that bytes can spell. Contracts see its parts.
@@ -14,8 +19,8 @@ pub struct Code {
 }
 
 impl Model for Code {
-    ghost use Rattle.bb_code_ops.specs.Code as code;
-    ghost use Rattle.bb_code_ops.specs.proving.Codes.{parts_code};
+    ghost use Rattle.bb_code.specs.Code as code;
+    ghost use Rattle.bb_code.specs.proving.Codes.{parts_code};
 
     ghost Value = { code.Code };
 
@@ -27,9 +32,10 @@ impl Model for Code {
 }
 
 impl Code {
-    /// A code of these parts, where they are within their limits: also each frame has a kind for each local, each query
-    /// at most 16 operands and a pattern of at most 64 nodes, each divisor is 1 or more, and no op says more than
-    /// `SAID_LIMIT` values.
+    /// Makes a code of these parts, or returns `None` if they are not within their limits. Besides the lengths of the
+    /// tables, these are: every frame has a kind for each local, and at most `STACK_LIMIT` kinds of the stack; every
+    /// query has at most 16 operands and a pattern of at most 64 nodes; every divisor is 1 or more; and no op says more
+    /// than `SAID_LIMIT` values.
     pub fn new(parts: CodeParts) -> Option<Code>
         ensures some { IsSome result ↔ IsCode parts }
         ensures value { IfSome result (λ code. code ≡ parts) }
@@ -41,7 +47,7 @@ impl Code {
         }
     }
 
-    /// A code of parts that are known to be within their limits.
+    /// Makes a code of parts that are known to be within their limits.
     pub(crate) fn from_parts(parts: CodeParts) -> Code
         requires { IsCode parts }
         ensures { result ≡ parts }
@@ -49,7 +55,7 @@ impl Code {
         Code { parts }
     }
 
-    /// The version.
+    /// Returns the version.
     pub fn version(&self) -> Version
         ensures value { result ≡ self.now.version }
         ensures fits { IsCode self.now }
@@ -57,7 +63,7 @@ impl Code {
         self.parts.version
     }
 
-    /// The number of locals, from 1 to `LOCAL_LIMIT`.
+    /// Returns the number of locals, from 1 to `LOCAL_LIMIT`.
     pub fn locals(&self) -> u8
         ensures value { result ≡ self.now.locals }
         ensures fits { IsCode self.now }
@@ -65,7 +71,7 @@ impl Code {
         self.parts.locals
     }
 
-    /// The texts, at most `TEXT_COUNT_LIMIT` of at most `TEXT_BYTES_LIMIT` bytes each.
+    /// Returns the texts, at most `TEXT_COUNT_LIMIT` of at most `TEXT_BYTES_LIMIT` bytes each.
     pub fn texts(&self) -> &[Text]
         ensures value { result.now ≡ self.now.texts }
         ensures fits { IsCode self.now }
@@ -73,7 +79,7 @@ impl Code {
         self.parts.texts.as_slice()
     }
 
-    /// The queries, at most `QUERY_LIMIT`.
+    /// Returns the queries, at most `QUERY_LIMIT`.
     pub fn queries(&self) -> &[Query]
         ensures value { result.now ≡ self.now.queries }
         ensures fits { IsCode self.now }
@@ -81,7 +87,7 @@ impl Code {
         self.parts.queries.as_slice()
     }
 
-    /// The declared frames, at most `FRAME_LIMIT`.
+    /// Returns the declared frames, at most `FRAME_LIMIT`.
     pub fn frames(&self) -> &[FrameEntry]
         ensures value { result.now ≡ self.now.frames }
         ensures fits { IsCode self.now }
@@ -89,7 +95,7 @@ impl Code {
         self.parts.frames.as_slice()
     }
 
-    /// The loops, at most `LOOP_LIMIT`.
+    /// Returns the loops, at most `LOOP_LIMIT`.
     pub fn loops(&self) -> &[Loop]
         ensures value { result.now ≡ self.now.loops }
         ensures fits { IsCode self.now }
@@ -97,7 +103,7 @@ impl Code {
         self.parts.loops.as_slice()
     }
 
-    /// The ops, from 1 to `OP_LIMIT`.
+    /// Returns the ops, from 1 to `OP_LIMIT`.
     pub fn ops(&self) -> &[Op]
         ensures value { result.now ≡ self.now.ops }
         ensures fits { IsCode self.now }
@@ -105,7 +111,7 @@ impl Code {
         self.parts.ops.as_slice()
     }
 
-    /// The op at a place, if there is one.
+    /// Returns the op at a place, or `None` if the place is outside the code.
     pub fn op(&self, place: usize) -> Option<Op>
         ensures value { result ≡ slice_get self.now.ops place }
         ensures fits { IsCode self.now }

@@ -1,11 +1,11 @@
-//! A code from bytes. Whoever reads bundles (bb_bundle) calls `decode`.
+//! Decoding of codes from bytes. Code that reads bundles (bb_bundle) calls `decode`.
 //!
-//! Each function reads a field at the front, and returns its value and the bytes after it.
+//! Each function reads a field at the start of some bytes, and returns its value and the bytes after it.
 
 ghost use Rattle.std.specs.Prelude.{◌≡◌, Ok, IfOk};
 ghost use Rattle.bb_basis.specs.Results.{Gives};
-ghost use Rattle.bb_code_ops.specs.Code as code;
-ghost use Rattle.bb_code_ops.specs.Answers.{map_ok};
+ghost use Rattle.bb_code.specs.Code as code;
+ghost use Rattle.bb_code.specs.Answers.{map_ok};
 ghost use Rattle.bb_code.specs.Spelling.{spelling};
 ghost use Rattle.bb_code.specs.Reading.{expected_at, version_at, head_at, code_of};
 
@@ -16,9 +16,8 @@ mod patterns;
 
 use crate::code::Code;
 use crate::fault::CodeFault;
-use bb_code_ops::{
-    CodeParts, LOCAL_LIMIT, LOOP_LIMIT, OP_LIMIT, QUERY_LIMIT, TEXT_COUNT_LIMIT, Version,
-};
+use crate::parts::{CodeParts, LOCAL_LIMIT, LOOP_LIMIT, OP_LIMIT, QUERY_LIMIT, TEXT_COUNT_LIMIT};
+use crate::version::Version;
 use fields::{read_byte, read_list, read_short_count};
 use frames::read_frames;
 use std::alloc::Global;
@@ -88,14 +87,15 @@ fn read_code(alloc: Global, bytes: &[u8]) -> Result<Code, CodeFault>
 }
 
 impl Code {
-    /// The code that all of the bytes spell. The fault is the first from the front, or `Memory` where memory ran out.
+    /// Returns the code that all of the bytes spell. The error is the first fault in the bytes, or `Memory` if memory
+    /// ran out.
     pub fn decode(alloc: Global, bytes: &[u8]) -> Result<Code, CodeFault>
-        // What is decoded is a code, and these bytes spell it.
+        // Whatever is decoded is a code, and these bytes spell it.
         ensures found { IfOk result (λ c. code.IsCode c × (bytes.now ≡ spelling c)) }
-        // What the bytes spell is decoded, unless memory runs out.
+        // A code that the bytes spell is decoded, unless memory runs out.
         ensures only { (c : code.Code) → code.IsCode c → bytes.now ≡ spelling c →
             Gives CodeFault.Memory (λ d. d) result (Ok c) }
-        // Which fault it is.
+        // The exact fault.
         ensures exact { Gives CodeFault.Memory (λ c. c) result (code_of bytes.now) }
     {
         read_code(alloc, bytes)

@@ -1,28 +1,29 @@
-//! A code as bytes. Whoever writes bundles (bb_bundle) calls `encode`.
+//! Encoding of codes as bytes. Code that writes bundles (bb_bundle) calls `encode`.
 
 ghost use Rattle.std.specs.Prelude.{◌≡◌, ◌∷◌, ◌++◌, ◌<◌, ◌^◌, length, All, OnOk, IfOk};
 ghost use Rattle.std.specs.List.{flat_map};
-ghost use Rattle.bb_code_ops.specs.Trees.{node_count, nodes_count};
-ghost use Rattle.bb_code_ops.specs.View.{trees_of};
+ghost use Rattle.bb_pattern.specs.Trees.{node_count, nodes_count};
+ghost use Rattle.bb_pattern.specs.View.{trees_of};
 ghost use Rattle.bb_code.specs.Spelling.{two_bytes, eight_bytes, listed, short_listed, part_count, tree_bytes};
 ghost use Rattle.bb_code.specs.Spelling.{trees_bytes, relation_byte, operand_bytes, version_byte, spelling};
 
 use crate::code::Code;
+use crate::frame::{FrameEntry, Kind, Loop};
+use crate::op::Op;
 use crate::table::opcode;
+use crate::version::Version;
+use crate::{Node, OperandKind, Pattern, Query, Relation};
 use bb_basis::Text;
-use bb_code_ops::{
-    FrameEntry, Kind, Loop, Node, Op, OperandKind, Pattern, Query, Relation, Version,
-};
 use std::alloc::{AllocError, Global};
 
-// A value that can stand in a list.
+// A value that can be an item of a list.
 trait Spelled: Sized {
     ghost use Rattle.std.specs.Prelude.{List, ℕ, ◌≡◌, ◌++◌, OnOk};
 
     /// The bytes that spell the value.
     ghost bytes: { Self → List ℕ };
 
-    /// Which values can be spelled so.
+    /// The condition for values to be spelled this way.
     ghost Fits: { Self → Type 0 };
 
     // Appends the bytes of the value.
@@ -71,7 +72,7 @@ fn put_int(out: &mut Vec<u8>, number: i64) -> Result<(), AllocError>
     out.extend_from_slice(&number.cast_unsigned().to_be_bytes())
 }
 
-// Appends a byte, and a number after it.
+// Appends a byte and then a number.
 fn put_tagged(out: &mut Vec<u8>, tag: u8, number: u16) -> Result<(), AllocError>
     ensures { OnOk result (out.new.items ≡ out.old.items ++ tag ∷ two_bytes number) }
 {
@@ -142,7 +143,7 @@ fn put_pattern(out: &mut Vec<u8>, pattern: &Pattern) -> Result<(), AllocError>
     }
 }
 
-// The byte of a node, the number of its parts, and the parts.
+// Appends the byte of a node, the number of its parts, and the parts.
 #[cycle(putting)]
 fn put_parts(out: &mut Vec<u8>, tag: u8, parts: &[Pattern]) -> Result<(), AllocError>
     requires { nodes_count (trees_of parts.now) < 2 ^ 8 }
@@ -157,7 +158,7 @@ fn put_parts(out: &mut Vec<u8>, tag: u8, parts: &[Pattern]) -> Result<(), AllocE
 }
 
 impl Spelled for Query {
-    ghost use Rattle.bb_code_ops.specs.Code.{IsQuery};
+    ghost use Rattle.bb_code.specs.Code.{IsQuery};
     ghost use Rattle.bb_code.specs.Spelling.{query_bytes};
 
     ghost bytes = { query_bytes };
@@ -222,7 +223,7 @@ impl Spelled for Loop {
     }
 }
 
-// What follows the opcode of an op.
+// Appends what follows the opcode of an op.
 fn put_operands(out: &mut Vec<u8>, op: Op) -> Result<(), AllocError>
     ensures { OnOk result (out.new.items ≡ out.old.items ++ operand_bytes op) }
 {
@@ -281,7 +282,7 @@ fn version_byte(version: Version) -> u8
 }
 
 impl Code {
-    /// The bytes that spell the code. `Code::decode` reads them again.
+    /// Returns the bytes that spell the code. `Code::decode` reads them again.
     pub fn encode(&self, alloc: Global) -> Result<Vec<u8>, AllocError>
         ensures { IfOk result (λ bytes. bytes.items ≡ spelling self.now) }
     {

@@ -1,4 +1,4 @@
-//! Why bytes are no code. Refusal lines name it by its number.
+//! Why bytes are not a code. Refusal lines give the fault's number.
 
 ghost use Rattle.std.specs.Prelude.{◌≡◌};
 ghost use Rattle.bb_code.specs.CodeFault.{fault_number};
@@ -7,10 +7,10 @@ ghost use Rattle.bb_code.specs.declared.fault.CodeFault.TheVariants.{Memory};
 use std::alloc::{AllocError, AllocFailed};
 use thiserror::Error;
 
-/// What is wrong with the bytes: the first fault from the front. Only `Memory` says nothing of them.
+/// The first fault of bytes that are not a code. Only `Memory` says nothing about them.
 #[derive(Clone, Copy, Debug, PartialEq, Eq, Error)]
 pub enum CodeFault {
-    /// One of the first three bytes is not that of every code.
+    /// One of the first three bytes is not the one with which every code begins.
     #[error("this is no code")]
     Magic,
     /// The version is neither 1 nor 2.
@@ -22,10 +22,11 @@ pub enum CodeFault {
     /// No op has this number.
     #[error("an op is unknown")]
     Opcode,
-    /// A text is not UTF-8, or an op has an operand that it may not have.
+    /// A text is not UTF-8, an op has an operand that it may not have, or a byte is not a truth value, a kind, or a
+    /// node of a pattern.
     #[error("an operand or a text is wrong")]
     Operand,
-    /// There are too many of something, or too few.
+    /// A count is above its maximum or below its minimum.
     #[error("a count is outside its limits")]
     Limit,
     /// Bytes follow the last op.
@@ -37,7 +38,7 @@ pub enum CodeFault {
 }
 
 impl CodeFault {
-    /// The number by which a refusal line names the fault, from 1 to 8.
+    /// Returns the number of the fault in refusal lines, from 1 to 8.
     pub fn number(self) -> u8
         ensures { result ≡ fault_number self }
     {

@@ -1,14 +1,14 @@
-//! Which ops, kinds and nodes of patterns there are in bytes: the number of each, and what follows it. Decoding and
-//! encoding go by these tables, and so do their definitions.
+//! The bytes of ops, kinds and nodes of patterns: the number of each, and what follows it. Decoding and encoding use
+//! these tables, and so do their definitions.
 
 ghost use Rattle.std.specs.Prelude.{◌≡◌, slice_get};
 ghost use Rattle.std.specs.Option.{option_and_then};
 ghost use Rattle.bb_code.specs.Spelling.{opcode};
 ghost use Rattle.bb_code.specs.Ops.{op_form, with_number, with_local, with_pair};
 
-use bb_code_ops::{
-    Bound, Calculation, Comparison, Division, Kind, LinkChange, LocalId, Logic, Op, Place, Relation,
-};
+use crate::Relation;
+use crate::frame::Kind;
+use crate::op::{Bound, Calculation, Comparison, Division, LinkChange, LocalId, Logic, Op, Place};
 
 /// The ops with one number of two bytes.
 #[derive(Clone, Copy)]
@@ -61,13 +61,13 @@ pub(crate) enum OpForm {
     Label,
     /// A divisor.
     Divisor(Division),
-    /// How many values are said.
+    /// The number of values that are said.
     Count,
     /// A local and a place.
     Next,
 }
 
-/// The op of each opcode. There is none of 0.
+/// The op of each opcode. 0 is not an opcode.
 pub(crate) const OPS: [Option<OpForm>; 50] = [
     None,
     Some(OpForm::Int),
@@ -180,7 +180,7 @@ pub(crate) const NODES: [NodeForm; 10] = [
     NodeForm::Is,
 ];
 
-/// What follows an opcode, if it is one.
+/// Returns what follows an opcode, if it is one.
 pub(crate) fn op_form(opcode: u8) -> Option<OpForm>
     ensures { result ≡ op_form opcode }
 {
@@ -196,14 +196,14 @@ fn entry_of(table: &[Option<OpForm>], opcode: u8) -> Option<OpForm>
     }
 }
 
-/// What follows the byte of a kind, if it is one.
+/// Returns what follows the byte of a kind, if it is one.
 pub(crate) fn kind_form(tag: u8) -> Option<KindForm>
     ensures { result ≡ slice_get KINDS tag }
 {
     KINDS.get(tag as usize).copied()
 }
 
-/// What follows the byte of a node, if it is one.
+/// Returns what follows the byte of a node, if it is one.
 pub(crate) fn node_form(tag: u8) -> Option<NodeForm>
     ensures { result ≡ slice_get NODES tag }
 {
@@ -211,7 +211,7 @@ pub(crate) fn node_form(tag: u8) -> Option<NodeForm>
 }
 
 impl Numbered {
-    /// The op with this number.
+    /// Makes the op with this number.
     pub(crate) fn op(self, number: u16) -> Op
         ensures { result ≡ with_number self number }
     {
@@ -234,7 +234,7 @@ impl Numbered {
 }
 
 impl OfLocal {
-    /// The op with this local.
+    /// Makes the op with this local.
     pub(crate) fn op(self, local: LocalId) -> Op
         ensures { result ≡ with_local self local }
     {
@@ -246,7 +246,7 @@ impl OfLocal {
 }
 
 impl Branch {
-    /// The op with this number and this place.
+    /// Makes the op with this number and this place.
     pub(crate) fn op(self, number: u16, place: Place) -> Op
         ensures { result ≡ with_pair self number place }
     {
@@ -257,7 +257,7 @@ impl Branch {
     }
 }
 
-/// The opcode of an op.
+/// Returns the opcode of an op.
 pub(crate) fn opcode(op: Op) -> u8
     ensures { result ≡ opcode op }
 {

@@ -1,13 +1,14 @@
-//! A code's text with a comment at each op: its place, its byte, and what its numbers name. bbasm prints it.
+//! A code's text with a comment after each op: its place, its byte, and the names of what its numbers refer to. bbasm
+//! prints it.
 
 use crate::text::{json_of, write_tables};
-use bb_code::{Code, Op, Query, Schema};
-use bb_code_text::write_op;
+use bb_code::{Code, Op, Query, Schema, write_op};
 use std::alloc::{AllocError, Global};
 use std::fmt::Write;
 
-/// The text of a code, which `assemble` reads like any other. After each op come its place and the index of its first
-/// byte in the code, both from 0, and a text's words; with a schema also names of slots, classes, spaces and labels.
+/// Returns the text of a code, which `assemble` reads like any other. A comment after each op has its place and the
+/// index of its first byte in the code, both from 0, and a text's characters; with a schema also the names of slots,
+/// classes, spaces and labels.
 pub fn listing(alloc: Global, code: &Code, schema: Option<&Schema>) -> Result<String, AllocError> {
     let mut text = String::new(alloc);
     write_tables(alloc, &mut text, code)?;
@@ -48,7 +49,7 @@ fn bytes_of_all(ops: &[Op]) -> usize {
     count
 }
 
-// Appends what an op names.
+// Appends the names of what an op refers to.
 fn write_names(
     alloc: Global,
     text: &mut String,

@@ -1,4 +1,4 @@
-//! From a text to its code.
+//! Reads the text of a code. bbasm and the cases call `assemble`.
 
 use crate::fault::{AsmFault, Slip, StatementFault};
 use crate::labels::Labels;
@@ -16,7 +16,8 @@ use bb_code::{
 use serde_json::Value;
 use std::alloc::Global;
 
-/// The code that a text is, or the first statement that is wrong. docs/users/formats/code.md says how one is written.
+/// Returns the code that a text describes. The error is the first wrong statement, with its line. For the form see
+/// docs/users/formats/code.md.
 pub fn assemble(alloc: Global, text: &str) -> Result<Code, AsmFault> {
     let statements = statements_of(alloc, text)?;
     let labels = Labels::of(alloc, &statements)?;
@@ -40,7 +41,7 @@ struct Draft {
     parts: CodeParts,
 }
 
-// Checks that `count` entries leave room for one more.
+// Checks that there may be one more entry after `count`.
 fn room(count: usize, limit: u16) -> Result<(), Slip> {
     if count < usize::from(limit) {
         Ok(())
@@ -65,7 +66,7 @@ impl Draft {
         }
     }
 
-    // Adds what a statement says.
+    // Adds the part of a code that a statement describes.
     fn add(
         &mut self,
         statement: &Statement<'_>,
@@ -187,7 +188,7 @@ impl Draft {
 // The kinds up to a `/` or the end.
 fn kinds_of(alloc: Global, operands: &mut Operands<'_>) -> Result<Kinds, StatementFault> {
     let mut kinds = Kinds::new(alloc);
-    // More kinds than a frame may have are a fault, so there is no need to read on.
+    // More kinds than a frame may have are a fault, so reading stops there.
     for _ in 0..=STACK_LIMIT {
         if operands.takes("/") {
             break;

@@ -1,9 +1,9 @@
-//! Why a text is no code. Whoever assembles reports where.
+//! Faults of the text of a code. Callers of `assemble` report them with their line.
 
 use std::alloc::{AllocError, AllocFailed};
 use thiserror::Error;
 
-/// What is wrong with a statement.
+/// The fault of a statement.
 #[derive(Clone, Copy, Debug, PartialEq, Eq, Error)]
 pub enum Slip {
     /// No op and no table has the name.
@@ -12,34 +12,34 @@ pub enum Slip {
     /// An operand is missing.
     #[error("an operand is missing")]
     Missing,
-    /// There are more operands than the statement takes.
+    /// There are more operands than the statement needs.
     #[error("there are too many operands")]
     TooMany,
-    /// An operand is no number, or one out of its range.
+    /// An operand is not a number in its range, or not a truth value where one is expected.
     #[error("a number in its range is due")]
     Number,
     /// A place is neither a number nor a label.
     #[error("no such place")]
     Place,
-    /// Two places have the same label, or a label is no name.
+    /// Two places have the same label, or a label is not a name.
     #[error("a label is due that no other place has")]
     Label,
-    /// A text is not in the form of JSON.
+    /// A text is not written as in JSON.
     #[error("a text as in JSON is due")]
     Text,
-    /// No kind of a value is written so.
+    /// A word is not a kind.
     #[error("a kind is due")]
     Kind,
-    /// A pattern is not written so.
+    /// A pattern is not well-formed.
     #[error("a pattern is due")]
     Pattern,
-    /// A loop is not written so.
+    /// A loop is not well-formed.
     #[error("a loop is its head, `-` and its end")]
     Loop,
-    /// The number of locals comes after another statement.
+    /// The number of locals comes after a frame.
     #[error("the number of locals comes first")]
     Late,
-    /// A frame has not one kind for each local.
+    /// A frame doesn't have one kind for each local.
     #[error("a frame has a kind for each local")]
     Locals,
     /// A count is outside its limits.
@@ -47,10 +47,10 @@ pub enum Slip {
     Limit,
 }
 
-/// The first fault of a text that is no code.
+/// The first fault of a text that is not a code.
 #[derive(Clone, Copy, Debug, PartialEq, Eq, Error)]
 pub enum AsmFault {
-    /// What is wrong with a statement, and its line, from 1.
+    /// The fault of a statement, and its line, from 1.
     #[error("line {line}: {slip}")]
     At { line: u32, slip: Slip },
     /// Memory ran out.
@@ -59,7 +59,7 @@ pub enum AsmFault {
 }
 
 impl AsmFault {
-    /// The line of the fault, from 1; 0 where memory ran out.
+    /// Returns the line of the fault, from 1, or 0 if memory ran out.
     pub fn line(&self) -> u32 {
         match self {
             AsmFault::At { line, slip: _ } => *line,
@@ -80,7 +80,7 @@ impl<T: Drop> From<AllocFailed<T>> for AsmFault {
     }
 }
 
-/// What stops the reading of one statement.
+/// The reason why the reading of a statement stopped.
 #[derive(Clone, Copy, Debug, PartialEq, Eq)]
 pub(crate) enum StatementFault {
     Slip(Slip),
@@ -88,7 +88,7 @@ pub(crate) enum StatementFault {
 }
 
 impl StatementFault {
-    /// The fault of a text in which a statement of this line is wrong.
+    /// Makes the fault of a text from that of a statement in a line.
     pub(crate) fn at(self, line: u32) -> AsmFault {
         match self {
             StatementFault::Slip(slip) => AsmFault::At { line, slip },

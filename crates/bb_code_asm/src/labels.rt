@@ -1,4 +1,4 @@
-//! The labels of a text. Operands that are places may be labels.
+//! The labels of a text. Operands that are places can be labels.
 
 use crate::fault::{AsmFault, Slip, StatementFault};
 use crate::statement::Statement;
@@ -13,14 +13,14 @@ pub(crate) struct Labels {
     places: BTreeMap<String, Place>,
 }
 
-// Whether a label is a letter or `_`, then letters, digits and `_`.
+// Whether a label consists of a letter or `_`, and then letters, digits and `_`.
 fn is_label(name: &str) -> bool {
     let first = name.bytes().next().unwrap_or(b'0');
     !first.is_ascii_digit() && name.bytes().all(|b| b.is_ascii_alphanumeric() || b == b'_')
 }
 
 impl Labels {
-    /// The labels before the ops of some statements.
+    /// Collects the labels before the ops of some statements.
     pub fn of(alloc: Global, statements: &[Statement<'_>]) -> Result<Labels, AsmFault> {
         let mut labels = Labels {
             alloc,
@@ -49,7 +49,7 @@ impl Labels {
         Ok(())
     }
 
-    /// The place that a word names, as a number or by its label.
+    /// Returns the place that a word names by its number or its label.
     pub fn place(&self, word: &str) -> Result<Place, Slip> {
         match word.parse::<Place>() {
             Ok(place) => Ok(place),

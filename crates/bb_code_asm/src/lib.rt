@@ -1,5 +1,6 @@
-//! Codes as text, for people, cases and examples: one statement a line, the ops by their names. The program bbasm and
-//! the cases (bb_cases_format) call `assemble` and `disassemble`.
+//! Codes as text, for people, cases and examples: one statement a line, with ops by name. bbasm and the cases
+//! (bb_cases_format) call `assemble` and `disassemble`; bbasm also prints a `listing`. Callers rely on: `assemble`
+//! makes the same code of the text that `disassemble` wrote.
 #![tactic(auto)]
 
 mod annotated;
@@ -15,8 +16,7 @@ mod text;
 mod words;
 
 pub use annotated::listing;
-pub use bb_code::{Code, CodeFault, Kind};
-pub use bb_code_text::write_kind;
+pub use bb_code::{Code, CodeFault, Kind, write_kind};
 pub use draft::assemble;
 pub use fault::{AsmFault, Slip};
 pub use text::disassemble;

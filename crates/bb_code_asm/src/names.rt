@@ -1,4 +1,4 @@
-//! How kinds are written: those of values in frames, and those of the operands of queries.
+//! The names of kinds: of values in frames, and of the operands of queries.
 
 use crate::fault::Slip;
 use bb_code::{Kind, OperandKind};
@@ -8,7 +8,8 @@ fn behind(word: &str) -> Result<u16, Slip> {
     word.parse::<u16>().ok().ok_or(Slip::Number)
 }
 
-/// The kind of a value: `Any`, `Int`, `Text`, `Bool`, `Interval`, `Label:SET`, `Ref:CLASS`, `Old:CLASS` or `Seq:CLASS`.
+/// Reads the kind of a value: `Any`, `Int`, `Text`, `Bool`, `Interval`, `Label:SET`, `Ref:CLASS`, `Old:CLASS` or
+/// `Seq:CLASS`.
 pub(crate) fn kind_of(word: &str) -> Result<Kind, Slip> {
     match word.split_once(':') {
         None => match word {
@@ -29,7 +30,7 @@ pub(crate) fn kind_of(word: &str) -> Result<Kind, Slip> {
     }
 }
 
-/// The kind of a query's operand: `interval`, or `label:SET`.
+/// Reads the kind of a query's operand: `interval` or `label:SET`.
 pub(crate) fn operand_kind_of(word: &str) -> Result<OperandKind, Slip> {
     match word.split_once(':') {
         Some(("label", set)) => Ok(OperandKind::Label(behind(set)?)),

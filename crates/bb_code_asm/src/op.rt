@@ -1,11 +1,10 @@
-//! Ops as they are written: the name, then the operands in the order of the op's bytes.
+//! The text form of ops: the name, and then the operands in the order of the op's bytes.
 
 use crate::fault::Slip;
 use crate::operands::Operands;
-use bb_code::{Division, LinkChange, Op, SAID_LIMIT};
-use bb_code_text::plain_op;
+use bb_code::{Division, LinkChange, Op, SAID_LIMIT, plain_op};
 
-/// The op of a name and its operands.
+/// Reads the operands of an op and returns it.
 pub(crate) fn op_of(name: &str, operands: &mut Operands<'_>) -> Result<Op, Slip> {
     let op = match plain_op(name) {
         Some(op) => op,
@@ -49,7 +48,7 @@ fn said_count(operands: &mut Operands<'_>) -> Result<u8, Slip> {
     Ok(count)
 }
 
-// An op on units that the next op follows, if one has the name.
+// An op on units that is followed by the next op, if one has the name.
 fn unit_op(name: &str, operands: &mut Operands<'_>) -> Result<Option<Op>, Slip> {
     let op = match name {
         "Get" => Op::Get(operands.number()?),

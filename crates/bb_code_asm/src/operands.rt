@@ -1,11 +1,11 @@
-//! The operands of a statement, taken one by one from the front.
+//! The operands of a statement, read one by one in order.
 
 use crate::fault::Slip;
 use crate::labels::Labels;
 use bb_code::{Place, Version};
 use std::str::FromStr;
 
-/// The operands of a statement, of which the first `taken` were taken.
+/// The operands of a statement, and the number of those that were read.
 #[derive(Drop)]
 pub(crate) struct Operands<'a> {
     words: &'a [&'a str],
@@ -14,7 +14,7 @@ pub(crate) struct Operands<'a> {
 }
 
 impl<'a> Operands<'a> {
-    /// The operands of a statement.
+    /// Starts before the first operand of a statement.
     pub fn new(words: &'a [&'a str], labels: &'a Labels) -> Operands<'a> {
         Operands {
             words,
@@ -23,19 +23,19 @@ impl<'a> Operands<'a> {
         }
     }
 
-    /// The next word, where there is one.
+    /// Reads the next word, if there is one.
     pub fn next_word(&mut self) -> Option<&'a str> {
         let word = self.words.get(self.taken)?;
         self.taken = self.taken.saturating_add(1);
         Some(*word)
     }
 
-    /// The next word.
+    /// Reads the next word.
     pub fn word(&mut self) -> Result<&'a str, Slip> {
         self.next_word().ok_or(Slip::Missing)
     }
 
-    /// Whether the next word is this one, which is then taken.
+    /// Returns whether the next word is this one, and if so skips it.
     pub fn takes(&mut self, word: &str) -> bool {
         let found = match self.words.get(self.taken) {
             Some(next) => *next == word,
@@ -47,7 +47,7 @@ impl<'a> Operands<'a> {
         found
     }
 
-    /// A number in the range of its type.
+    /// Reads a number in the range of its type.
     pub fn number<T: FromStr>(&mut self) -> Result<T, Slip>
     where
         T::Err: Drop,
@@ -55,7 +55,7 @@ impl<'a> Operands<'a> {
         self.word()?.parse::<T>().ok().ok_or(Slip::Number)
     }
 
-    /// A divisor, 1 or more.
+    /// Reads a divisor, 1 or more.
     pub fn divisor(&mut self) -> Result<i64, Slip> {
         let number = self.number::<i64>()?;
         if number < 1 {
@@ -64,7 +64,7 @@ impl<'a> Operands<'a> {
         Ok(number)
     }
 
-    /// The version of a code, 1 or 2.
+    /// Reads the version of a code, 1 or 2.
     pub fn version(&mut self) -> Result<Version, Slip> {
         match self.number::<u8>()? {
             1 => Ok(Version::One),
@@ -73,18 +73,18 @@ impl<'a> Operands<'a> {
         }
     }
 
-    /// A truth value.
+    /// Reads a truth value.
     pub fn truth(&mut self) -> Result<bool, Slip> {
         self.word()?.parse::<bool>().ok().ok_or(Slip::Number)
     }
 
-    /// A place, by its number or its label.
+    /// Reads a place, by its number or its label.
     pub fn place(&mut self) -> Result<Place, Slip> {
         let word = self.word()?;
         self.labels.place(word)
     }
 
-    /// A place that another word names.
+    /// Returns the place that another word names.
     pub fn place_of(&self, word: &str) -> Result<Place, Slip> {
         self.labels.place(word)
     }

@@ -1,13 +1,12 @@
-//! Patterns as they are written: `all`, `and(P, P)`, `or(P, P)`, `not(P)`, `within DIM OPERAND` and the other
-//! relations, `is DIM OPERAND`. The assembler calls it for queries.
+//! The text form of patterns: `all`, `and(P, P)`, `or(P, P)`, `not(P)`, `within DIM OPERAND` and the other relations,
+//! `is DIM OPERAND`. The assembler reads the patterns of queries here.
 
 use crate::fault::{Slip, StatementFault};
 use crate::operands::Operands;
-use bb_code::{Node, Pattern};
-use bb_code_text::relation_of;
+use bb_code::{Node, Pattern, relation_of};
 use std::alloc::Global;
 
-/// Reads a pattern of at most `depth` levels, and takes its nodes from `room`.
+/// Reads a pattern of at most `depth` levels, and subtracts its nodes from `room`.
 #[cycle(reading)]
 pub(crate) fn read_pattern(
     alloc: Global,
@@ -30,7 +29,7 @@ pub(crate) fn read_pattern(
     Ok(Pattern::new(node))
 }
 
-// Takes a word that has to come next.
+// Skips a word that must come next.
 fn expect(operands: &mut Operands<'_>, word: &str) -> Result<(), StatementFault> {
     if operands.takes(word) {
         Ok(())

@@ -1,33 +1,33 @@
-//! The statements of a text: which words belong together, and in which line they stand. The assembler goes over them
-//! twice, once for the labels and once for everything else.
+//! The statements of a text: the words of each, and its line. The assembler reads them twice: once for the labels and
+//! once for everything else.
 
 use crate::words::words_of;
 use std::alloc::{AllocError, Global};
 
-/// Some words that belong together.
+/// A statement: its words and its line.
 #[derive(Drop)]
 pub(crate) struct Statement<'a> {
-    /// The line that the statement stands in, from 1.
+    /// The line of the statement, from 1.
     pub line: u32,
     /// The label before the statement, without its `:`.
     pub label: Option<&'a str>,
-    /// The op or the table; empty after a label alone.
+    /// The op or the table; empty if there is only a label.
     pub name: &'a str,
     /// The words after the name.
     pub operands: Vec<&'a str>,
 }
 
-// The names of statements that are tables and not ops.
+// The names of statements that are not ops.
 const TABLES: [&str; 6] = ["version", "locals", "text", "query", "frame", "loop"];
 
-// The label that a word is, where it ends with `:`.
+// The label at the start of some words, if the first one ends with `:`.
 fn label_of<'a>(words: &[&'a str]) -> Option<&'a str> {
     let first = words.first()?;
     first.strip_suffix(':')
 }
 
 impl<'a> Statement<'a> {
-    // The statement of some words.
+    // Makes a statement of some words.
     fn of(alloc: Global, line: u32, words: &[&'a str]) -> Result<Statement<'a>, AllocError> {
         let label = label_of(words);
         let before = usize::from(label.is_some());
@@ -41,7 +41,7 @@ impl<'a> Statement<'a> {
         })
     }
 
-    /// Whether the statement is meant as an op.
+    /// Returns whether the statement is meant as an op.
     pub fn is_op(&self) -> bool {
         !self.name.is_empty() && !TABLES.contains(&self.name)
     }
@@ -63,7 +63,7 @@ fn add_line<'a>(
     Ok(())
 }
 
-/// The statements of a text.
+/// Splits a text into statements.
 pub(crate) fn statements_of(alloc: Global, text: &str) -> Result<Vec<Statement<'_>>, AllocError> {
     let mut statements = Vec::new(alloc);
     let mut number = 0u32;

@@ -1,12 +1,14 @@
-//! From a code to its text.
+//! Writes the text of a code. bbasm and the cases call `disassemble`.
 
-use bb_code::{Code, FrameEntry, Kind, Node, Op, OperandKind, Pattern, Query, Version};
-use bb_code_text::{relation_name, write_kind, write_op};
+use bb_code::{
+    Code, FrameEntry, Kind, Node, Op, OperandKind, Pattern, Query, Version, relation_name,
+    write_kind, write_op,
+};
 use serde_json::Value;
 use std::alloc::{AllocError, Global};
 use std::fmt::Write;
 
-/// The text of a code, a line for each statement: the version where it is 2, the number of locals, the texts, the
+/// Returns the text of a code, one statement a line: the version if it is 2, the number of locals, the texts, the
 /// queries, the frames, the loops and the ops. `assemble` makes the same code of it.
 pub fn disassemble(alloc: Global, code: &Code) -> Result<String, AllocError> {
     let mut text = String::new(alloc);
@@ -15,7 +17,7 @@ pub fn disassemble(alloc: Global, code: &Code) -> Result<String, AllocError> {
     Ok(text)
 }
 
-/// Appends all statements but the ops.
+/// Appends all statements except the ops.
 pub(crate) fn write_tables(
     alloc: Global,
     text: &mut String,
@@ -40,7 +42,7 @@ pub(crate) fn write_tables(
     Ok(())
 }
 
-/// A text as JSON writes it.
+/// Returns a text as JSON writes it.
 pub(crate) fn json_of(alloc: Global, text: &str) -> Result<String, AllocError> {
     Value::String(String::from_str(alloc, text)?).to_string(alloc)
 }

@@ -1,8 +1,8 @@
-//! The words of a line. Statements (statement.rt) are made of them.
+//! The words of a line. Statements (`statement.rt`) consist of them.
 
 use std::alloc::{AllocError, Global};
 
-// Where the scan of a line is. A number is where the word began.
+// The state of the scan of a line. A number is the position at which the word began.
 #[derive(Clone, Copy)]
 enum Reading {
     Between,
@@ -12,12 +12,12 @@ enum Reading {
     Escaped(usize),
 }
 
-// Whether a character is a word of its own, wherever it stands.
+// Whether a character is always a separate word.
 fn is_mark(ch: char) -> bool {
     matches!(ch, ';' | '(' | ')' | ',' | '/')
 }
 
-// Appends the word from one place of a line to another.
+// Appends the word between two positions of a line.
 fn add<'a>(
     words: &mut Vec<&'a str>,
     line: &'a str,
@@ -30,7 +30,7 @@ fn add<'a>(
     Ok(())
 }
 
-/// The words of a line up to its comment: a quoted text, a mark, or what stands between blanks and marks.
+/// Splits a line into words, up to its comment: a quoted text, a mark, or anything else between blanks and marks.
 pub(crate) fn words_of(alloc: Global, line: &str) -> Result<Vec<&str>, AllocError> {
     let mut words = Vec::new(alloc);
     let mut reading = Reading::Between;

@@ -1,4 +1,4 @@
-//! Tests of codes: their bytes with memory, each byte with each value, and the limits of codes that are made.
+//! Tests of codes: their bytes with enough memory, every byte with every value, and the limits of codes that are made.
 
 use bb_basis::{Items, Text};
 use bb_code::{

@@ -1,4 +1,4 @@
-//! Tests of codes and of their verification: bytes with memory, limits, and the loops of a code by a plain program.
+//! Tests of codes and their verification: bytes with enough memory, limits, and loops compared with a plain program.
 #![tactic(auto)]
 
 #[cfg(test)]

@@ -1,4 +1,4 @@
-//! The loops of a code, by a plain program that looks at all of them again at each place. The verifier's answer is
+//! The loops of a code, judged by a plain program that examines all of them again at each op. The verifier's verdict is
 //! compared with it.
 
 use bb_basis::{Items, Text};

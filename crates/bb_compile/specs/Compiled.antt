@@ -1,10 +1,10 @@
--- The source of a tree, with a code for each part that is a block, or the first flaw from the front of the text.
+-- The source of a tree, with a code for each part that is a block, or the first fault of the text.
 use Rattle.std.specs.Prelude.{ℕ, List, Option, Some, None, Result, Ok, Err, if◌then◌else◌}
 use Rattle.bb_basis.specs.Results.{◌>>=◌, ok_or}
-use Rattle.bb_code_ops.specs.Code.{Code}
-use Rattle.bb_verify_frame.specs.declared.part.Part.{Part}
-use Rattle.bb_verify_frame.specs.declared.part.Part.TheVariants.{Require, Obviate, Retrigger, Revalidate, Do}
-use Rattle.bb_verify_frame.specs.Schema.{Schema, class_named}
+use Rattle.bb_code.specs.Code.{Code}
+use Rattle.bb_verify_effect.specs.declared.part.Part.{Part}
+use Rattle.bb_verify_effect.specs.declared.part.Part.TheVariants.{Require, Obviate, Retrigger, Revalidate, Do}
+use Rattle.bb_verify_effect.specs.Schema.{Schema, class_named}
 use Rattle.bb_lang.specs.ActText.{ActText}
 use Rattle.bb_lang.specs.ActText.TheVariants as acts
 use Rattle.bb_lang.specs.PartText.{PartText}
@@ -16,7 +16,7 @@ use Rattle.bb_compile_scope.specs.declared.fault.TextFlaw.TheVariants.{Unknown, 
 use Rattle.bb_compile_scope.specs.declared.fault.CompileFault.{CompileFault}
 use Rattle.bb_compile_scope.specs.declared.fault.CompileFault.TheVariants.{At}
 use Rattle.bb_compile_scope.specs.Ending.{block_ends}
-use Rattle.bb_compile_emit.specs.Parts.{part_code}
+use Rattle.bb_compile.specs.Parts.{part_code}
 use Rattle.bb_bundle.specs.declared.draft.ActDraft.{ActDraft}
 use Rattle.bb_bundle.specs.declared.draft.ActDraft.TheVariants as drafts
 use Rattle.bb_bundle.specs.declared.draft.Header.{Header}
@@ -27,11 +27,11 @@ use Rattle.bb_bundle.specs.Spelled.{if_spelled}
 
 -- ---- parts
 
--- the class of the name after an `on` at a place
+-- the class named after an `on`, at a place
 abbrev pub class_on : Schema → (name : List ℕ) → Place → Result ℕ CompileFault
 class_on schema name on = ok_or (class_named schema name) (At Unknown on)
 
--- the class of a reaction's events; a reaction that can run past its end is refused first, where it begins
+-- the class of a reaction's events; a reaction that can run past its end is refused first, at its own place
 abbrev pub class_of_events : Schema → ReactionText → Result ℕ CompileFault
 class_of_events schema text =
     if block_ends text.block then class_on schema text.class text.on else Err (At NoEnd text.place)
@@ -60,7 +60,7 @@ abbrev pub act_of : Schema → (class : ℕ) → ActText → Result (ActDraft Co
 act_of schema class acts.Native = Ok drafts.Native
 act_of schema class (acts.Do text) = part_code schema (Do class) text.place text.block >>= λ code. Ok (drafts.Do code)
 
--- the parts besides the act, one after another
+-- the parts other than the act, one after another
 unfoldable pub parts_of : Schema → (class : ℕ) → PartTexts → Result (Parts Code) CompileFault
 parts_of schema class texts = do
   require ← part_of schema (Require class) texts.require
@@ -69,7 +69,7 @@ parts_of schema class texts = do
   revalidate ← part_of schema (Revalidate class) texts.revalidate
   Ok (record { require = require; obviate = obviate; retrigger = retrigger; revalidate = revalidate })
 
--- ---- the source: its name, class, rate and clauses are those of the tree, and so is which parts it has
+-- ---- the source: its name, class, rate, clauses and set of parts are those of the tree
 
 abbrev pub header_of : SourceText → Header
 header_of text = record {
@@ -86,7 +86,7 @@ draft_of schema text = do
   act ← act_of schema class text.act
   Ok (record { header = header_of text; parts = parts; act = act })
 
--- the source of a tree, where all of its names are names, and it has clauses
+-- the source of a tree; a fault if not all of its names are valid, or it lacks clauses
 unfoldable pub compiled : Schema → SourceText → Result (SourceDraft Code) CompileFault
 compiled schema text = do
   draft ← draft_of schema text

@@ -1,22 +1,21 @@
-//! The parts that a source has besides its act, each compiled to its code. The compiler of sources (source.rt) makes
-//! them, one after another.
+//! Compiles the parts of a source other than its act, one after another. The compiler of sources (source.rt) calls it.
 
 ghost use Rattle.std.specs.Prelude.{◌≡◌};
 ghost use Rattle.bb_basis.specs.Results.{Gives};
-ghost use Rattle.bb_verify_frame.specs.declared.part.Part.TheVariants.{Obviate, Retrigger};
+ghost use Rattle.bb_verify_effect.specs.declared.part.Part.TheVariants.{Obviate, Retrigger};
 ghost use Rattle.bb_compile_scope.specs.declared.fault.CompileFault.TheVariants.{Memory as OutOfMemory};
 ghost use Rattle.bb_compile.specs.Compiled.{class_of_events, class_on, part_of, parts_of, reaction_of, reaction_if};
 
+use crate::part::emit_part;
 use bb_basis::Text;
 use bb_bundle::{Parts, ReactionDraft};
 use bb_code::Code;
-use bb_compile_emit::emit_part;
 use bb_compile_scope::{CompileFault, Place, TextFlaw, block_ends};
 use bb_lang::{PartText, PartTexts, ReactionText};
-use bb_verify_frame::{ClassId, Part, Schema};
+use bb_verify_effect::{ClassId, Part, Schema};
 use std::alloc::Global;
 
-/// The class of the name after an `on` at a place.
+/// Looks up the class named after an `on`, at a place. `Unknown`: there is none.
 pub(crate) fn class_on(schema: &Schema, name: &Text, place: Place) -> Result<ClassId, CompileFault>
     ensures { result ≡ class_on schema.now name.now place }
 {
@@ -26,7 +25,7 @@ pub(crate) fn class_on(schema: &Schema, name: &Text, place: Place) -> Result<Cla
         .ok_or(CompileFault::At { flaw, place })
 }
 
-// The class of a reaction's events. A reaction that can run past its end is refused first, where it begins.
+// Looks up the class of a reaction's events. A reaction that can run past its end is refused first, at its own place.
 fn class_of_events(schema: &Schema, text: &ReactionText) -> Result<ClassId, CompileFault>
     ensures { result ≡ class_of_events schema.now text.now }
 {
@@ -38,7 +37,7 @@ fn class_of_events(schema: &Schema, text: &ReactionText) -> Result<ClassId, Comp
     class_on(schema, &text.class, text.on)
 }
 
-// The code of a part, where the source has it.
+// Compiles a part, if the source has it.
 fn part_if(
     alloc: Global,
     schema: &Schema,
@@ -56,7 +55,7 @@ fn part_if(
     }
 }
 
-// What a reaction is.
+// Compiles a reaction.
 #[tactic(auto, unfolding(crate::specs::Compiled::reaction_of))]
 fn reaction_of(
     alloc: Global,
@@ -74,7 +73,7 @@ fn reaction_of(
     })
 }
 
-// The reaction that ends activations, where the source has it.
+// Compiles the reaction that ends activations, if the source has it.
 fn obviation(
     alloc: Global,
     schema: &Schema,
@@ -91,7 +90,7 @@ fn obviation(
     Ok(Some(reaction_of(alloc, schema, part, text)?))
 }
 
-// The reaction that rates activations again, where the source has it.
+// Compiles the reaction that rates activations again, if the source has it.
 fn retriggering(
     alloc: Global,
     schema: &Schema,
@@ -108,7 +107,7 @@ fn retriggering(
     Ok(Some(reaction_of(alloc, schema, part, text)?))
 }
 
-/// The parts that a source has besides its act, with their codes.
+/// Compiles the parts of a source other than its act.
 #[tactic(auto, unfolding(crate::specs::Compiled::parts_of))]
 pub(crate) fn parts_of(
     alloc: Global,

@@ -1,20 +1,20 @@
-//! A source from its tree. Whoever has a text of sources calls `compile` for each.
+//! Compiles a source. Callers with a parsed text call `compile` for each source.
 
 ghost use Rattle.std.specs.Prelude.{◌≡◌, IfOk};
 ghost use Rattle.bb_basis.specs.Results.{Gives};
 ghost use Rattle.bb_compile_scope.specs.declared.fault.CompileFault.TheVariants.{Memory as OutOfMemory};
 ghost use Rattle.bb_compile.specs.Compiled.{header_of, act_of, draft_of, compiled};
 
+use crate::part::emit_part;
 use crate::parts::{class_on, parts_of};
 use bb_bundle::{ActDraft, Header, SourceCode, SourceDraft};
 use bb_code::Code;
-use bb_compile_emit::emit_part;
 use bb_compile_scope::{CompileFault, TextFlaw};
 use bb_lang::{ActText, SourceText};
-use bb_verify_frame::{ClassId, Part, Schema};
+use bb_verify_effect::{ClassId, Part, Schema};
 use std::alloc::{AllocError, Global};
 
-// What a source has besides its codes.
+// Makes the header of a source: its name, class, rate and triggers.
 fn header_of(text: &SourceText) -> Result<Header, AllocError>
     ensures { IfOk result (λ header. header ≡ header_of text.now) }
 {
@@ -26,7 +26,7 @@ fn header_of(text: &SourceText) -> Result<Header, AllocError>
     })
 }
 
-// What an activation does.
+// Compiles the act of a source.
 fn act_of(
     alloc: Global,
     schema: &Schema,
@@ -45,7 +45,7 @@ fn act_of(
     }
 }
 
-// The source of a tree, for a schema.
+// Compiles a source, without checking that a bundle can spell it.
 #[tactic(auto, unfolding(crate::specs::Compiled::draft_of))]
 fn draft_of(
     alloc: Global,
@@ -61,7 +61,7 @@ fn draft_of(
     Ok(SourceDraft { header, parts, act })
 }
 
-/// The source of a tree, with a code for each of its parts that is a block.
+/// Compiles a source: each part that is a block becomes a code. Fails with the first fault of the text.
 #[tactic(auto, unfolding(crate::specs::Compiled::compiled))]
 pub fn compile(
     alloc: Global,

@@ -7,19 +7,19 @@ use Rattle.std.proofs.lemmas.Bool.{lt-ltb, ltb-true, le-leb, leb-true, eqb-true,
 use Rattle.std.proofs.lemmas.Int.{ints}
 use Rattle.std.proofs.lemmas.Str.{IsUtf8-from_is_utf8, is_utf8-from_IsUtf8}
 use Rattle.std.proofs.lemmas.List.Elements.{All-nil, All-cons, All-head, All-tail}
-use Rattle.bb_code_ops.specs.Code as codes
-use Rattle.bb_code_ops.specs.OperandKind.{OperandKind}
-use Rattle.bb_code_ops.specs.OperandKind.TheVariants as operands
-use Rattle.bb_code_ops.specs.Query.{Query}
-use Rattle.bb_code_ops.specs.Trees.{Tree, Trees, all, and_of, or_of, not_of, ordered, is_label, no_more, more, node_count}
-use Rattle.bb_code_ops.specs.PatternLimits.{NODE_LIMIT, OPERAND_LIMIT}
-use Rattle.bb_code.specs.Limits.{LOCAL_LIMIT, TEXT_COUNT_LIMIT, TEXT_BYTES_LIMIT, QUERY_LIMIT, FRAME_LIMIT, LOOP_LIMIT, OP_LIMIT, SAID_LIMIT, STACK_LIMIT}
-use Rattle.bb_code.specs.FrameEntry.{FrameEntry}
-use Rattle.bb_code.specs.Loop.{Loop}
-use Rattle.bb_verify_frame.specs.Kind.{Kind}
-use Rattle.bb_verify_frame.specs.Kind.TheVariants as kinds
-use Rattle.bb_verify_frame.specs.Op.{Op}
-use Rattle.bb_verify_frame.specs.Op.TheVariants as ops
+use Rattle.bb_code.specs.Code as codes
+use Rattle.bb_code.specs.OperandKind.{OperandKind}
+use Rattle.bb_code.specs.OperandKind.TheVariants as operands
+use Rattle.bb_code.specs.Query.{Query}
+use Rattle.bb_code.specs.Trees.{Tree, Trees, all, and_of, or_of, not_of, ordered, is_label, no_more, more, node_count}
+use Rattle.bb_code.specs.PatternLimits.{NODE_LIMIT, OPERAND_LIMIT}
+use Rattle.bb_code.specs.declared.parts.TheConstants.{LOCAL_LIMIT, TEXT_COUNT_LIMIT, TEXT_BYTES_LIMIT, QUERY_LIMIT, FRAME_LIMIT, LOOP_LIMIT, OP_LIMIT, SAID_LIMIT, STACK_LIMIT}
+use Rattle.bb_code.specs.declared.frame.FrameEntry.{FrameEntry}
+use Rattle.bb_code.specs.declared.frame.Loop.{Loop}
+use Rattle.bb_verify_effect.specs.Kind.{Kind}
+use Rattle.bb_verify_effect.specs.Kind.TheVariants as kinds
+use Rattle.bb_verify_effect.specs.Op.{Op}
+use Rattle.bb_verify_effect.specs.Op.TheVariants as ops
 use Rattle.bb_basis.specs.Results.{ok_or}
 use Rattle.bb_compile_scope.specs.Place.{Place}
 use Rattle.bb_compile_scope.specs.declared.fault.TextFlaw.TheVariants.{Limit}

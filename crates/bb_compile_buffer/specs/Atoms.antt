@@ -1,12 +1,12 @@
 -- Expressions without parts.
 use Rattle.std.specs.Prelude.{ℕ, Bool, nat_le, List, length, Option, Some, None, Result, Ok, Err, if◌then◌else◌}
 use Rattle.bb_basis.specs.Results.{◌>>=◌}
-use Rattle.bb_code.specs.Limits.{TEXT_BYTES_LIMIT}
-use Rattle.bb_verify_frame.specs.Kind.{Kind}
-use Rattle.bb_verify_frame.specs.Kind.TheVariants as kinds
-use Rattle.bb_verify_frame.specs.Op.{Op}
-use Rattle.bb_verify_frame.specs.Op.TheVariants as ops
-use Rattle.bb_verify_frame.specs.Schema.{Schema, label_set_named, label_named}
+use Rattle.bb_code.specs.declared.parts.TheConstants.{TEXT_BYTES_LIMIT}
+use Rattle.bb_verify_effect.specs.Kind.{Kind}
+use Rattle.bb_verify_effect.specs.Kind.TheVariants as kinds
+use Rattle.bb_verify_effect.specs.Op.{Op}
+use Rattle.bb_verify_effect.specs.Op.TheVariants as ops
+use Rattle.bb_verify_effect.specs.Schema.{Schema, label_set_named, label_named}
 use Rattle.bb_lang.specs.Atom.{Atom}
 use Rattle.bb_lang.specs.Atom.TheVariants as atoms
 use Rattle.bb_lang.specs.Variable.{Variable}
@@ -40,12 +40,12 @@ abbrev pub live_unit : Option ℕ → (live : Bool) → Step (Option ℕ)
 live_unit None live s = Ok (None, noted WrongKind s)
 live_unit (Some class) live s = Ok (Some class, if live then s else noted DeadName s)
 
--- the class of a unit, which has to be live
+-- the class of a unit, which must be live
 abbrev pub unit_of : Made → Step (Option ℕ)
 unit_of None s = Ok (None, s)
 unit_of (Some kind) s = live_unit (class_of kind) (is_live kind) s
 
--- the live unit of a name
+-- the unit of a name, which must be live
 unfoldable pub unit_code : Variable → (room : ℕ) → Step (Option ℕ)
 unit_code v room s = do
   (kind, t) ← variable_code v room s
@@ -67,7 +67,7 @@ slot_code schema unit slot room s = do
   (class, t) ← unit_code unit room s
   got_from schema slot class t
 
--- a text that is too long
+-- a text that is too long is a flaw
 abbrev pub text_noted : (text : List ℕ) → Buffer → Buffer
 text_noted text s = if nat_le (length text) TEXT_BYTES_LIMIT then s else noted Limit s
 
@@ -89,7 +89,7 @@ label_in schema label (Some set) room s = label_of set (label_named schema set l
 unfoldable pub label_code : Schema → (set label : List ℕ) → (room : ℕ) → Step Made
 label_code schema set label room s = label_in schema label (label_set_named schema set) room s
 
--- an expression without parts, where the stack has room for `room` values
+-- an expression without parts, with room for `room` values on the stack
 unfoldable pub atom_code : Schema → (room : ℕ) → Atom → Step Made
 atom_code schema room (atoms.Int n) s = pushed (ops.PushInt n) kinds.Int room s
 atom_code schema room (atoms.Text text) s = text_code text room s

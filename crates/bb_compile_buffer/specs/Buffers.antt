@@ -1,15 +1,15 @@
--- What is laid out so far of a part's code, and one step more.
+-- The code of a part as far as it is emitted, and single steps of emission.
 use Rattle.std.specs.Prelude.{ℕ, ◌+◌, ◌==◌, Bool, nat_le, max, set, List, [], ◌∷◌, ◌++◌, length, slice_get, position, Option, Some, None, Result, Ok, Err, if◌then◌else◌}
 use Rattle.std.specs.Str.{bytes_eq}
 use Rattle.bb_basis.specs.Results.{◌>>=◌}
 use Rattle.bb_compile_scope.specs.Place.{Place}
-use Rattle.bb_verify_frame.specs.Kind.{Kind}
-use Rattle.bb_verify_frame.specs.Kinds.{is_same_plain}
-use Rattle.bb_verify_frame.specs.Op.{Op}
-use Rattle.bb_verify_frame.specs.Op.TheVariants.{One, Alive, As, Jump, Unless, Next, Store}
-use Rattle.bb_verify_frame.specs.Query.{Query}
-use Rattle.bb_code.specs.Limits.{OP_LIMIT, TEXT_COUNT_LIMIT, QUERY_LIMIT, LOOP_LIMIT}
-use Rattle.bb_code.specs.Loop.{Loop}
+use Rattle.bb_verify_effect.specs.Kind.{Kind}
+use Rattle.bb_verify_effect.specs.Kinds.{is_same_plain}
+use Rattle.bb_verify_effect.specs.Op.{Op}
+use Rattle.bb_verify_effect.specs.Op.TheVariants.{One, Alive, As, Jump, Unless, Next, Store}
+use Rattle.bb_verify_effect.specs.Query.{Query}
+use Rattle.bb_code.specs.declared.parts.TheConstants.{OP_LIMIT, TEXT_COUNT_LIMIT, QUERY_LIMIT, LOOP_LIMIT}
+use Rattle.bb_code.specs.declared.frame.Loop.{Loop}
 use Rattle.bb_compile_scope.specs.declared.fault.TextFlaw.{TextFlaw}
 use Rattle.bb_compile_scope.specs.declared.fault.TextFlaw.TheVariants.{Unknown, Kind as WrongKind, Limit}
 use Rattle.bb_compile_scope.specs.declared.fault.CompileFault.{CompileFault}
@@ -21,11 +21,11 @@ use Rattle.bb_compile_scope.specs.Scope.{with_name, back_to}
 use Rattle.bb_compile_buffer.specs.declared.label.Label.{Label}
 use Rattle.bb_compile_buffer.specs.declared.buffer.Buffer.{Buffer}
 
--- one step: what it makes and the buffer after it, or a fault
+-- a step: its result and the buffer after it, or a fault
 abbrev pub Step : Type 0 → Type 0
 Step X = Buffer → Result (X × Buffer) CompileFault
 
--- one step that makes nothing: the buffer after it, or a fault
+-- a step without a result: the buffer after it, or a fault
 abbrev pub Change : Type 0
 Change = Buffer → Result Buffer CompileFault
 
@@ -35,11 +35,11 @@ too_large s = Err (At Limit s.start)
 
 -- ---- flaws
 
--- one more flaw of this statement
+-- this statement has another flaw
 abbrev pub noted : TextFlaw → Buffer → Buffer
 noted flaw s = record s { flaw = Some (lowest s.flaw flaw) }
 
--- a value, as far as its kind is known, is of the kind that is wanted
+-- a value, if its kind is known, must be of the kind that is wanted
 unfoldable pub due : Option Kind → (wanted : Kind) → Buffer → Buffer
 due None wanted s = s
 due (Some kind) wanted s = if is_same_plain kind wanted then s else noted WrongKind s
@@ -52,22 +52,22 @@ refused_at place (Some flaw) = Err (At flaw place)
 abbrev pub settled : Place → Buffer → Result (Unit {0}) CompileFault
 settled place s = refused_at place s.flaw
 
--- what a name means, if it is known
+-- a name must have a meaning
 abbrev pub known : Option ℕ → Buffer → Buffer
 known None s = noted Unknown s
 known (Some n) s = s
 
 -- ---- ops
 
--- one more op
+-- appends an op
 unfoldable pub put : Op → Change
 put op s = if nat_le OP_LIMIT (length s.ops) then too_large s else Ok (record s { ops = s.ops ++ op ∷ [] })
 
--- one more op, which pushes a value: there has to be room for it on the stack
+-- appends an op that pushes a value, which must fit on the stack
 unfoldable pub put_value : Op → (room : ℕ) → Change
 put_value op room s = put op (if room == 0 then noted Limit s else s)
 
--- an op with another place to go to, if it goes to one
+-- an op with another target, if it has a target
 abbrev pub aimed : Op → (place : ℕ) → Op
 aimed (One slot _) place = One slot place
 aimed (Alive _) place = Alive place
@@ -81,7 +81,7 @@ abbrev pub with_aimed : List Op → (at : ℕ) → Option Op → List Op
 with_aimed ops at None = ops
 with_aimed ops at (Some op) = set ops at (aimed op (length ops))
 
--- the op at a place goes to the end
+-- the op at a place gets the place after the last op as its target
 abbrev pub aimed_at : (at : ℕ) → List Op → List Op
 aimed_at at ops = with_aimed ops at (slice_get ops at)
 
@@ -96,11 +96,11 @@ text_at text None s =
     if nat_le TEXT_COUNT_LIMIT (length s.texts) then too_large s
     else Ok (length s.texts, record s { texts = s.texts ++ text ∷ [] })
 
--- a text, which stands once
+-- the index of a text, which is added if it is new
 unfoldable pub text_index : (text : List ℕ) → Step ℕ
 text_index text s = text_at text (position (bytes_eq text) s.texts) s
 
--- one more query
+-- appends a query
 unfoldable pub asked_query : Query → Step ℕ
 asked_query query s =
     if nat_le QUERY_LIMIT (length s.queries) then too_large s
@@ -116,13 +116,13 @@ abbrev pub with_end : List Loop → (index end : ℕ) → Option Loop → List L
 with_end loops index end None = loops
 with_end loops index end (Some l) = set loops index (record { head = l.head; end = end })
 
--- the loop of an index ends before a place
+-- the loop at an index ends before a place
 abbrev pub ended_at : (index end : ℕ) → List Loop → List Loop
 ended_at index end loops = with_end loops index end (slice_get loops index)
 
 -- ---- labels
 
--- of two labels at one place the later one stays
+-- of two labels at one place, the later one is kept
 unfoldable pub kept : List Label → Option Label → (place : ℕ) → List Label
 kept labels None place = labels
 kept labels (Some last) place = if last.place == place then labels else labels ++ last ∷ []
@@ -136,7 +136,7 @@ labelled s = record s {
 
 -- ---- names
 
--- another scope, or what the locals hold in it
+-- the buffer with other kinds of the locals, or after a return to a mark
 abbrev pub with_kinds : List Kind → Buffer → Buffer
 with_kinds kinds s = record s { scope = record { names = s.scope.names; kinds = kinds } }
 

@@ -1,11 +1,11 @@
--- An empty buffer, and the code of one that is laid out whole.
+-- An empty buffer, and the code of a buffer once everything is emitted.
 use Rattle.std.specs.Prelude.{ℕ, map, List, [], ◌∷◌, ◌++◌, length, Option, Some, None, Result, Ok, Err, if◌then◌else◌}
 use Rattle.std.specs.List.{range_with_len}
-use Rattle.bb_code_ops.specs.Code.{Code}
-use Rattle.bb_code.specs.FrameEntry.{FrameEntry}
-use Rattle.bb_code.specs.Version.{Version}
-use Rattle.bb_verify_frame.specs.declared.part.Part.{Part}
-use Rattle.bb_verify_frame.specs.Part.{units_of}
+use Rattle.bb_code.specs.Code.{Code}
+use Rattle.bb_code.specs.declared.frame.FrameEntry.{FrameEntry}
+use Rattle.bb_code.specs.declared.version.Version.{Version}
+use Rattle.bb_verify_effect.specs.declared.part.Part.{Part}
+use Rattle.bb_verify_effect.specs.Part.{units_of}
 use Rattle.bb_compile_scope.specs.Place.{Place}
 use Rattle.bb_compile_scope.specs.declared.fault.TextFlaw.TheVariants.{Limit}
 use Rattle.bb_compile_scope.specs.declared.fault.CompileFault.{CompileFault}
@@ -16,7 +16,7 @@ use Rattle.bb_compile_buffer.specs.declared.label.Label.{Label}
 use Rattle.bb_compile_buffer.specs.declared.buffer.Buffer.{Buffer}
 use Rattle.bb_compile_buffer.specs.Within.{is_within}
 
--- nothing is laid out yet
+-- nothing is emitted yet
 abbrev pub empty_buffer : Part → Place → Buffer
 empty_buffer part start = record {
   start = start;
@@ -47,7 +47,7 @@ last_frame locals (Some label) = frame_of locals label ∷ []
 abbrev pub frames_of : (locals : ℕ) → List Label → Option Label → List FrameEntry
 frames_of locals labels last = map (frame_of locals) labels ++ last_frame locals last
 
--- the code of a buffer, of a version
+-- the code of a buffer, in a version of the format
 abbrev pub code_of : Version → Buffer → Code
 code_of version s = record {
   version = version;
@@ -59,6 +59,6 @@ code_of version s = record {
   ops = s.ops;
 }
 
--- a code that is past another limit is refused at its part
+-- a code that exceeds another limit is refused at its part
 unfoldable pub if_within : Place → Code → Result Code CompileFault
 if_within start code = if is_within code then Ok code else Err (At Limit start)

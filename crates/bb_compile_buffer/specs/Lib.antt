@@ -1,4 +1,4 @@
--- what is laid out so far of a code
+-- the code of a part as far as it is emitted
 pub mod Buffers
 -- operations
 pub mod Operations
@@ -6,5 +6,5 @@ pub mod Operations
 pub mod Atoms
 -- which codes are within the limits of codes
 pub mod Within
--- an empty buffer, and the code of one that is laid out whole
+-- an empty buffer, and the code of a buffer once everything is emitted
 pub mod Finish

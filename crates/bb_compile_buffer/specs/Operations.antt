@@ -1,16 +1,16 @@
 -- Operations, after their operands.
 use Rattle.std.specs.Prelude.{ℕ, ℤ, pos, int_lt, Option, Some, None, Ok, if◌then◌else◌}
 use Rattle.bb_basis.specs.Results.{◌>>=◌}
-use Rattle.bb_verify_frame.specs.Kind.{Kind}
-use Rattle.bb_verify_frame.specs.Kind.TheVariants as kinds
-use Rattle.bb_verify_frame.specs.Op.{Op}
-use Rattle.bb_verify_frame.specs.Op.TheVariants as ops
-use Rattle.bb_code.specs.Bound.TheVariants as bounds
-use Rattle.bb_code.specs.Calculation.TheVariants as calculations
-use Rattle.bb_code.specs.Comparison.TheVariants as comparisons
-use Rattle.bb_code.specs.Division.{Division as OpDivision}
-use Rattle.bb_code.specs.Division.TheVariants as op_divisions
-use Rattle.bb_code.specs.Logic.TheVariants as logics
+use Rattle.bb_verify_effect.specs.Kind.{Kind}
+use Rattle.bb_verify_effect.specs.Kind.TheVariants as kinds
+use Rattle.bb_verify_effect.specs.Op.{Op}
+use Rattle.bb_verify_effect.specs.Op.TheVariants as ops
+use Rattle.bb_code.specs.declared.op.Bound.TheVariants as bounds
+use Rattle.bb_code.specs.declared.op.Calculation.TheVariants as calculations
+use Rattle.bb_code.specs.declared.op.Comparison.TheVariants as comparisons
+use Rattle.bb_code.specs.declared.op.Division.{Division as OpDivision}
+use Rattle.bb_code.specs.declared.op.Division.TheVariants as op_divisions
+use Rattle.bb_code.specs.declared.op.Logic.TheVariants as logics
 use Rattle.bb_lang.specs.Unary.{Unary}
 use Rattle.bb_lang.specs.Unary.TheVariants as unaries
 use Rattle.bb_lang.specs.Binary.{Binary}
@@ -24,7 +24,7 @@ use Rattle.bb_compile_scope.specs.Kinds.{equality}
 use Rattle.bb_compile_buffer.specs.declared.buffer.Buffer.{Buffer}
 use Rattle.bb_compile_buffer.specs.Buffers.{Step, Change, noted, due, put}
 
--- the kind of what is made, as far as it is known
+-- the kind of a value, if it is known
 abbrev pub Made : Type 0
 Made = Option Kind
 
@@ -76,11 +76,11 @@ abbrev pub division_op : Division → OpDivision
 division_op divisions.Quotient = op_divisions.DivBy
 division_op divisions.Remainder = op_divisions.ModBy
 
--- a divisor that is less than 1
+-- a divisor less than 1 is a flaw
 abbrev pub divisor_noted : (divisor : ℤ) → Buffer → Buffer
 divisor_noted divisor s = if int_lt divisor (pos 1) then noted Limit s else s
 
--- /, %: by 1 or more
+-- /, %: by a number that must be at least 1
 unfoldable pub division_code : Division → (divisor : ℤ) → (left : Made) → Step Made
 division_code division divisor left s =
     one_due left kinds.Int (ops.Divide (division_op division) divisor) kinds.Int (divisor_noted divisor s)

@@ -2,21 +2,21 @@
 use Rattle.std.specs.Prelude.{ℕ, ℤ, pos, negsuc, ◌^◌, Bool, true, ◌&&◌, nat_le, nat_lt, nat_eq, int_le, List, length}
 use Rattle.std.specs.List.{list_all}
 use Rattle.std.specs.Str.{is_utf8}
-use Rattle.bb_code_ops.specs.Code.{Code}
-use Rattle.bb_code_ops.specs.PatternLimits.{NODE_LIMIT, OPERAND_LIMIT}
-use Rattle.bb_code_ops.specs.OperandKind.{OperandKind}
-use Rattle.bb_code_ops.specs.OperandKind.TheVariants as operands
-use Rattle.bb_code_ops.specs.Query.{Query}
-use Rattle.bb_code_ops.specs.Trees.{Tree, Trees, all, and_of, or_of, not_of, ordered, is_label, no_more, more, node_count}
-use Rattle.bb_code.specs.Limits.{LOCAL_LIMIT, TEXT_COUNT_LIMIT, TEXT_BYTES_LIMIT, QUERY_LIMIT, FRAME_LIMIT, LOOP_LIMIT, OP_LIMIT, SAID_LIMIT, STACK_LIMIT}
-use Rattle.bb_code.specs.FrameEntry.{FrameEntry}
-use Rattle.bb_code.specs.Loop.{Loop}
-use Rattle.bb_verify_frame.specs.Kind.{Kind}
-use Rattle.bb_verify_frame.specs.Kind.TheVariants as kinds
-use Rattle.bb_verify_frame.specs.Op.{Op}
-use Rattle.bb_verify_frame.specs.Op.TheVariants as ops
+use Rattle.bb_code.specs.Code.{Code}
+use Rattle.bb_code.specs.PatternLimits.{NODE_LIMIT, OPERAND_LIMIT}
+use Rattle.bb_code.specs.OperandKind.{OperandKind}
+use Rattle.bb_code.specs.OperandKind.TheVariants as operands
+use Rattle.bb_code.specs.Query.{Query}
+use Rattle.bb_code.specs.Trees.{Tree, Trees, all, and_of, or_of, not_of, ordered, is_label, no_more, more, node_count}
+use Rattle.bb_code.specs.declared.parts.TheConstants.{LOCAL_LIMIT, TEXT_COUNT_LIMIT, TEXT_BYTES_LIMIT, QUERY_LIMIT, FRAME_LIMIT, LOOP_LIMIT, OP_LIMIT, SAID_LIMIT, STACK_LIMIT}
+use Rattle.bb_code.specs.declared.frame.FrameEntry.{FrameEntry}
+use Rattle.bb_code.specs.declared.frame.Loop.{Loop}
+use Rattle.bb_verify_effect.specs.Kind.{Kind}
+use Rattle.bb_verify_effect.specs.Kind.TheVariants as kinds
+use Rattle.bb_verify_effect.specs.Op.{Op}
+use Rattle.bb_verify_effect.specs.Op.TheVariants as ops
 
--- a number that one byte holds, or two, or eight with a sign
+-- a number fits in one byte, in two, or in eight with a sign
 abbrev pub byte : ℕ → Bool
 byte n = nat_lt n (2 ^ 8)
 
@@ -100,7 +100,7 @@ op_within _ = true
 abbrev pub list_within : {X : Type 0} → (few : ℕ) → (X → Bool) → List X → Bool
 list_within few each xs = nat_le (length xs) few && list_all each xs
 
--- the whole
+-- a code
 unfoldable pub is_within : Code → Bool
 is_within c =
     (nat_le 1 c.locals && nat_le c.locals LOCAL_LIMIT)

@@ -1,4 +1,4 @@
-//! Expressions without parts, laid out and judged. The layout of expressions and statements calls it.
+//! Checks and emits expressions without parts. The emission of expressions and statements calls it.
 
 ghost use Rattle.std.specs.Prelude.{◌≡◌};
 ghost use Rattle.bb_basis.specs.Results.{Gives};
@@ -15,7 +15,7 @@ use bb_compile_scope::{
 };
 use bb_lang::Atom;
 
-// An op that pushes a value of a kind.
+// Emits an op that pushes a value of a kind.
 #[tactic(auto, unfolding(crate::specs::Atoms::pushed))]
 fn emit_pushed(
     buffer: &mut Buffer,
@@ -29,7 +29,7 @@ fn emit_pushed(
     Ok(Some(gives))
 }
 
-/// Loads what a name holds, and returns its kind.
+/// Emits a load of what a name holds, and returns its kind.
 #[tactic(auto, unfolding(crate::specs::Atoms::variable_code))]
 pub fn emit_variable(
     buffer: &mut Buffer,
@@ -46,7 +46,7 @@ pub fn emit_variable(
     Ok(Some(buffer.scope.kinds.get(local)))
 }
 
-/// Loads the unit of a name, which has to be live, and returns its class.
+/// Emits a load of the unit of a name, which must be live, and returns its class.
 #[tactic(auto, unfolding(crate::specs::Atoms::unit_code))]
 pub fn emit_unit(
     buffer: &mut Buffer,
@@ -69,7 +69,7 @@ pub fn emit_unit(
     Ok(Some(class))
 }
 
-// The value that a unit has in a slot.
+// Emits the value that a unit has in a slot.
 #[tactic(auto, unfolding(crate::specs::Atoms::slot_code))]
 fn emit_slot(
     schema: &Schema,
@@ -96,7 +96,7 @@ fn emit_slot(
     }
 }
 
-// Notes a text that is too long.
+// Notes `Limit` if a text is too long.
 fn check_text(buffer: &mut Buffer, text: &Text)
     ensures { buffer.new ≡ text_noted text.now buffer.old }
 {
@@ -106,7 +106,7 @@ fn check_text(buffer: &mut Buffer, text: &Text)
     buffer.note(TextFlaw::Limit);
 }
 
-// A text.
+// Emits a text.
 #[tactic(auto, unfolding(crate::specs::Atoms::text_code))]
 fn emit_text(buffer: &mut Buffer, text: &Text, room: usize) -> Result<Option<Kind>, CompileFault>
     ensures { Gives OutOfMemory (λ kind. (kind, buffer.new)) result (text_code text.now room buffer.old) }
@@ -116,7 +116,7 @@ fn emit_text(buffer: &mut Buffer, text: &Text, room: usize) -> Result<Option<Kin
     emit_pushed(buffer, Op::PushText(index), Kind::Text, room)
 }
 
-// A label of a set.
+// Emits a label of a set.
 #[tactic(auto, unfolding(crate::specs::Atoms::label_code))]
 fn emit_label(
     schema: &Schema,
@@ -139,7 +139,7 @@ fn emit_label(
     emit_pushed(buffer, Op::PushLabel(set, label), Kind::Label(set), room)
 }
 
-/// An expression without parts, where the stack has room for `room` values. Returns its kind, as far as it is known.
+/// Emits an expression without parts, with room for `room` values on the stack. Returns its kind, if it is known.
 #[tactic(auto, unfolding(crate::specs::Atoms::atom_code))]
 pub fn emit_atom(
     schema: &Schema,

@@ -1,4 +1,4 @@
-//! What is laid out so far of a part's code. All that lays out code writes on a buffer.
+//! The code of a part as far as it is emitted. Everything that emits code writes to a buffer.
 
 ghost use Rattle.std.specs.Prelude.{◌≡◌, IfOk, [], length, None};
 ghost use Rattle.bb_basis.specs.Results.{Gives};
@@ -17,11 +17,11 @@ use bb_code::{LOOP_LIMIT, QUERY_LIMIT, Query, TEXT_COUNT_LIMIT};
 use bb_compile_scope::{
     CompileFault, Kind, LocalId, LocalKinds, Op, Part, Place, Scope, TextFlaw, lowest,
 };
-use bb_verify_frame::is_same_plain;
+use bb_verify_effect::is_same_plain;
 use std::alloc::{AllocError, Global};
 use std::mem;
 
-/// What is laid out so far of a part's code, the names that are in scope here, and the least flaw of this statement.
+/// The code of a part as far as it is emitted, the names in scope here, and the lowest flaw of this statement.
 #[derive(Drop)]
 pub struct Buffer {
     /// The place of the part's first token.
@@ -30,7 +30,7 @@ pub struct Buffer {
     pub texts: Texts,
     pub queries: Items<Query>,
     pub loops: Loops,
-    /// The labels but the last one, which another at the same place may replace.
+    /// The labels except the last one, which another at the same place may replace.
     pub labels: Items<Label>,
     pub last: Option<Label>,
     pub scope: Scope,
@@ -54,7 +54,7 @@ fn keep(labels: &mut Items<Label>, last: Option<Label>, place: u16) -> Result<()
 }
 
 impl Buffer {
-    /// An empty buffer for a part.
+    /// Creates an empty buffer for a part.
     pub fn new(alloc: Global, part: Part, start: Place) -> Result<Buffer, AllocError>
         ensures { IfOk result (λ buffer. buffer ≡ empty_buffer part start) }
     {
@@ -73,21 +73,21 @@ impl Buffer {
         })
     }
 
-    /// The allocator of the buffer. Whoever lays code out on it takes memory from it too.
+    /// Returns the allocator of the buffer. Callers that emit to it allocate from it too.
     pub fn alloc(&self) -> Global {
         self.texts.alloc()
     }
 
     // ---- flaws
 
-    /// Notes a flaw of this statement.
+    /// Notes a flaw of this statement. Of several, the lowest is kept.
     pub fn note(&mut self, flaw: TextFlaw)
         ensures { self.new ≡ noted flaw self.old }
     {
         self.flaw = Some(lowest(self.flaw, flaw));
     }
 
-    /// Notes a value of another kind than `wanted`.
+    /// Notes `Kind` if the kind of a value is known and is not `wanted`.
     #[tactic(auto, unfolding(crate::specs::Buffers::due))]
     pub fn due(&mut self, kind: Option<Kind>, wanted: Kind)
         ensures { self.new ≡ due kind wanted self.old }
@@ -101,7 +101,7 @@ impl Buffer {
         self.note(TextFlaw::Kind);
     }
 
-    /// Notes that a name is unknown, if it means nothing.
+    /// Notes `Unknown` if a name has no meaning.
     pub fn known(&mut self, meant: Option<u16>)
         ensures { self.new ≡ known meant self.old }
     {
@@ -123,7 +123,7 @@ impl Buffer {
 
     // ---- ops
 
-    /// Appends an op.
+    /// Appends an op. `Limit`, at the part: there are `OP_LIMIT` ops already.
     #[tactic(auto, unfolding(crate::specs::Buffers::put))]
     pub fn put(&mut self, op: Op) -> Result<(), CompileFault>
         ensures { Gives OutOfMemory (λ _. self.new) result (put op self.old) }
@@ -139,7 +139,8 @@ impl Buffer {
         Ok(())
     }
 
-    /// Appends an op that pushes a value, where the stack has room for `room` values.
+    /// Appends an op that pushes a value, and notes `Limit` if `room`, the number of values that fit on the stack, is
+    /// 0. `Limit`, at the part: as `put`.
     #[tactic(auto, unfolding(crate::specs::Buffers::put_value))]
     pub fn put_value(&mut self, op: Op, room: usize) -> Result<(), CompileFault>
         ensures { Gives OutOfMemory (λ _. self.new) result (put_value op room self.old) }
@@ -151,7 +152,7 @@ impl Buffer {
         self.put(op)
     }
 
-    /// Has the op at a place go to the place of the next op.
+    /// Sets the target of the op at a place to the place of the next op.
     pub fn aim(&mut self, at: u16)
         ensures { self.new ≡ aim at self.old }
     {
@@ -160,7 +161,8 @@ impl Buffer {
 
     // ---- texts, queries and loops
 
-    /// The index of a text.
+    /// Returns the index of a text, which is added if it is new. `Limit`, at the part: there are `TEXT_COUNT_LIMIT`
+    /// texts already.
     #[tactic(auto, unfolding(crate::specs::Buffers::text_index))]
     pub fn text(&mut self, text: &str) -> Result<u16, CompileFault>
         ensures { Gives OutOfMemory (λ index. (index, self.new)) result (text_index text.now self.old) }
@@ -180,7 +182,7 @@ impl Buffer {
         Ok(index)
     }
 
-    /// Appends a query, and returns its index.
+    /// Appends a query and returns its index. `Limit`, at the part: there are `QUERY_LIMIT` queries already.
     #[tactic(auto, unfolding(crate::specs::Buffers::asked_query))]
     pub fn ask(&mut self, query: Query) -> Result<u16, CompileFault>
         ensures { Gives OutOfMemory (λ index. (index, self.new)) result (asked_query query self.old) }
@@ -197,7 +199,7 @@ impl Buffer {
         Ok(index as u16)
     }
 
-    /// Begins a loop here, and returns its index.
+    /// Begins a loop here and returns its index. `Limit`, at the part: there are `LOOP_LIMIT` loops already.
     #[tactic(auto, unfolding(crate::specs::Buffers::begun_loop))]
     pub fn begin_loop(&mut self) -> Result<usize, CompileFault>
         ensures { Gives OutOfMemory (λ index. (index, self.new)) result (begun_loop self.old) }
@@ -217,7 +219,7 @@ impl Buffer {
 
     // ---- labels
 
-    /// Puts a label at the place of the next op. Of several labels at a place the last one stays.
+    /// Puts a label at the place of the next op. Of several labels at one place, the last one is kept.
     #[tactic(auto, unfolding(crate::specs::Buffers::labelled))]
     pub fn label(&mut self) -> Result<(), AllocError>
         ensures { IfOk result (λ _. self.new ≡ labelled self.old) }
@@ -230,7 +232,8 @@ impl Buffer {
 
     // ---- names
 
-    /// The lowest free local, which holds a value of this kind from now on.
+    /// Takes the lowest free local, which holds a value of this kind from now on. `Limit`, at the part: no local is
+    /// free.
     #[tactic(auto, unfolding(crate::specs::Buffers::take_local))]
     pub fn take_local(&mut self, kind: Kind) -> Result<LocalId, CompileFault>
         ensures { Gives OutOfMemory (λ local. (local, self.new)) result (take_local kind self.old) }
@@ -247,7 +250,8 @@ impl Buffer {
         Ok(local)
     }
 
-    /// Declares a name for the value on the stack, which is of this kind.
+    /// Declares a name for the value on the stack, which is of this kind, and stores the value in a free local.
+    /// `Limit`, at the part: no local is free, or as `put`.
     #[tactic(auto, unfolding(crate::specs::Buffers::declare))]
     pub fn declare(&mut self, name: &Text, kind: Kind) -> Result<(), CompileFault>
         ensures { Gives OutOfMemory (λ _. self.new) result (declare name.now kind self.old) }

@@ -1,4 +1,4 @@
-//! The code of a buffer that is laid out whole. The layout of parts calls `finish`.
+//! Makes the code of a buffer, once everything is emitted. The emission of parts calls `finish`.
 
 ghost use Rattle.std.specs.Prelude.{◌≡◌, IfOk, map, ◌++◌};
 ghost use Rattle.std.specs.List.{range_with_len};
@@ -14,7 +14,7 @@ use bb_code::{Code, CodeParts, Frame, FrameEntry, Kinds, Version};
 use bb_compile_scope::{CompileFault, LocalKinds, Place, TextFlaw};
 use std::alloc::{AllocError, Global};
 
-// The kinds of the first `locals` locals.
+// Returns the kinds of the first `locals` locals.
 fn first_kinds(alloc: Global, kinds: &LocalKinds, locals: u8) -> Result<Kinds, AllocError>
     ensures { IfOk result (λ k. k ≡ map (kind_at kinds.now) (range_with_len 0 locals)) }
 {
@@ -25,7 +25,7 @@ fn first_kinds(alloc: Global, kinds: &LocalKinds, locals: u8) -> Result<Kinds, A
     Ok(first)
 }
 
-// The frame of a label.
+// Makes the frame of a label.
 fn frame_of(alloc: Global, label: &Label, locals: u8) -> Result<FrameEntry, AllocError>
     ensures { IfOk result (λ f. f ≡ frame_of locals label.now) }
 {
@@ -39,7 +39,7 @@ fn frame_of(alloc: Global, label: &Label, locals: u8) -> Result<FrameEntry, Allo
     })
 }
 
-// The frames of labels.
+// Makes the frames of labels.
 fn frames_each(alloc: Global, labels: &[Label], locals: u8) -> Result<Vec<FrameEntry>, AllocError>
     ensures { IfOk result (λ v. v.items ≡ map (frame_of locals) labels.now) }
 {
@@ -50,7 +50,7 @@ fn frames_each(alloc: Global, labels: &[Label], locals: u8) -> Result<Vec<FrameE
     Ok(frames)
 }
 
-// The frames of labels, and of a last one.
+// Makes the frames of labels, and of a last one, if there is one.
 fn frames_of(
     alloc: Global,
     labels: &[Label],
@@ -67,7 +67,7 @@ fn frames_of(
     Ok(frames)
 }
 
-// The code of its parts, if they are within the limits of a code.
+// Makes a code of its parts, if they are within the limits of codes.
 #[tactic(auto, unfolding(crate::specs::Finish::if_within))]
 fn checked(parts: CodeParts, place: Place) -> Result<Code, CompileFault>
     ensures { result ≡ if_within place parts }
@@ -76,7 +76,7 @@ fn checked(parts: CodeParts, place: Place) -> Result<Code, CompileFault>
     Code::new(parts).ok_or(CompileFault::At { flaw, place })
 }
 
-/// The code that a buffer has, of a version.
+/// Makes the code in a buffer, in a version of the format. `Limit`, at the part: it exceeds a limit of codes.
 pub fn finish(buffer: Buffer, version: Version) -> Result<Code, CompileFault>
     ensures { Gives OutOfMemory (λ code. code) result (if_within buffer.start (code_of version buffer)) }
 {

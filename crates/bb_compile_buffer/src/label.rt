@@ -1,8 +1,8 @@
-//! Labels: places that ops go to, with what the locals hold there. Frames are made of them.
+//! Labels: targets of ops, with what the locals hold there. Frames are made of them.
 
 use bb_compile_scope::LocalKinds;
 
-/// A place that an op goes to, and what the locals hold there.
+/// The target of an op, and what the locals hold there.
 #[derive(Drop)]
 pub struct Label {
     pub place: u16,

@@ -1,5 +1,6 @@
-//! The code of a part while it is emitted: ops, texts, queries, loops and labels on a `Buffer`, with the names in scope
-//! and the first flaw. On it stand expressions without parts, and operations.
+//! The code of a part while it is emitted: ops, texts, queries, loops and labels in a `Buffer`, with the names in scope
+//! and the lowest flaw of the current statement. Also emits expressions without parts, and operations. bb_compile emits
+//! everything else on top of it. Callers rely on: a code that is too large is a `Limit` fault at its part.
 #![tactic(auto)]
 
 mod atoms;

@@ -1,4 +1,4 @@
-//! The loops of a code that is being laid out. The buffer keeps them.
+//! The loops of a code that is being emitted. The buffer contains them.
 
 ghost use Rattle.std.specs.Prelude.{◌≡◌, [], ◌∷◌, ◌++◌, length, OnOk};
 ghost use Rattle.bb_compile_buffer.specs.Buffers.{ended_at};
@@ -7,7 +7,7 @@ use bb_code::Loop;
 use std::alloc::{AllocError, Global};
 use std::marker::Model;
 
-/// The loops in the order of their heads. Contracts see them as their list.
+/// Loops, in the order of their heads. Contracts see them as a list.
 #[derive(Drop)]
 pub struct Loops {
     loops: Vec<Loop>,
@@ -15,7 +15,7 @@ pub struct Loops {
 
 impl Model for Loops {
     ghost use Rattle.std.specs.Prelude.{List};
-    ghost use Rattle.bb_code.specs.Loop.{Loop as OneLoop};
+    ghost use Rattle.bb_code.specs.declared.frame.Loop.{Loop as OneLoop};
 
     ghost Value = { List OneLoop };
 
@@ -23,7 +23,7 @@ impl Model for Loops {
 }
 
 impl Loops {
-    /// No loop. It allocates nothing.
+    /// Creates an empty list. Allocates nothing.
     pub fn new(alloc: Global) -> Loops
         ensures { result ≡ [] }
     {
@@ -32,14 +32,14 @@ impl Loops {
         }
     }
 
-    /// The number of loops.
+    /// Returns the number of loops.
     pub fn len(&self) -> usize
         ensures { result ≡ length self.now }
     {
         self.loops.len()
     }
 
-    /// Begins a loop, whose end is not known yet.
+    /// Begins a loop whose end is not known yet.
     pub fn begin(&mut self, head: u16) -> Result<(), AllocError>
         ensures { OnOk result (self.new ≡ self.old ++ record { head = head; end = head } ∷ []) }
     {
@@ -47,7 +47,7 @@ impl Loops {
         Ok(())
     }
 
-    /// Ends the loop of an index before a place.
+    /// Ends the loop at an index before a place.
     pub fn end(&mut self, index: usize, end: u16)
         ensures { self.new ≡ ended_at index end self.old }
     {
@@ -58,7 +58,7 @@ impl Loops {
         self.loops[index] = Loop { head, end };
     }
 
-    /// The loops.
+    /// Returns the loops.
     pub fn into_vec(self) -> Vec<Loop>
         ensures { result.items ≡ self }
     {

@@ -1,10 +1,10 @@
-//! Operations, laid out and judged after their operands. The layout of expressions calls it.
+//! Checks and emits operations, after their operands. The emission of expressions calls it.
 
 ghost use Rattle.std.specs.Prelude.{◌≡◌};
 ghost use Rattle.bb_basis.specs.Results.{Gives};
 ghost use Rattle.bb_compile_scope.specs.declared.fault.CompileFault.TheVariants.{Memory as OutOfMemory};
-ghost use Rattle.bb_verify_frame.specs.Kind.TheVariants.{Int, Bool};
-ghost use Rattle.bb_verify_frame.specs.Op.TheVariants.{Calculate, Compare, Combine};
+ghost use Rattle.bb_verify_effect.specs.Kind.TheVariants.{Int, Bool};
+ghost use Rattle.bb_verify_effect.specs.Op.TheVariants.{Calculate, Compare, Combine};
 ghost use Rattle.bb_compile_buffer.specs.Operations.{one_due, two_due, unary_code, equality_code, binary_code, operator_code};
 ghost use Rattle.bb_compile_buffer.specs.Operations.{division_op, divisor_noted, division_code};
 
@@ -13,7 +13,7 @@ use bb_code::{Bound, Calculation, Comparison, Division as OpDivision, Logic};
 use bb_compile_scope::{CompileFault, Kind, Op, TextFlaw, equality};
 use bb_lang::{Binary, Division, Operator, Unary};
 
-// An op on one operand of a kind.
+// Emits an op on one operand of a kind.
 #[tactic(auto, unfolding(crate::specs::Operations::one_due))]
 fn emit_one(
     buffer: &mut Buffer,
@@ -29,7 +29,7 @@ fn emit_one(
     Ok(Some(gives))
 }
 
-// An op on two operands of a kind.
+// Emits an op on two operands of a kind.
 #[tactic(auto, unfolding(crate::specs::Operations::two_due))]
 fn emit_two(
     buffer: &mut Buffer,
@@ -47,7 +47,7 @@ fn emit_two(
     Ok(Some(gives))
 }
 
-/// An operation on one operand.
+/// Emits an operation on one operand, given the operand's kind. Returns the kind of the result.
 pub fn emit_unary(
     buffer: &mut Buffer,
     operation: Unary,
@@ -68,7 +68,7 @@ pub fn emit_unary(
     }
 }
 
-// Whether two operands are equal.
+// Emits the test whether two operands are equal.
 fn emit_equality(
     buffer: &mut Buffer,
     left: Option<Kind>,
@@ -91,7 +91,7 @@ fn emit_equality(
     }
 }
 
-// Two numbers become a value of a kind.
+// Emits a calculation with two numbers.
 fn emit_calculation(
     buffer: &mut Buffer,
     calculation: Calculation,
@@ -105,7 +105,7 @@ fn emit_calculation(
     emit_two(buffer, left, right, Kind::Int, op, Kind::Int)
 }
 
-// Two numbers are compared.
+// Emits a comparison of two numbers.
 fn emit_comparison(
     buffer: &mut Buffer,
     comparison: Comparison,
@@ -119,7 +119,7 @@ fn emit_comparison(
     emit_two(buffer, left, right, Kind::Int, op, Kind::Bool)
 }
 
-// Two truth values are combined.
+// Emits a combination of two truth values.
 fn emit_logic(
     buffer: &mut Buffer,
     logic: Logic,
@@ -133,7 +133,7 @@ fn emit_logic(
     emit_two(buffer, left, right, Kind::Bool, op, Kind::Bool)
 }
 
-/// An operation on two operands.
+/// Emits an operation on two operands, given their kinds. Returns the kind of the result.
 #[tactic(auto, unfolding(crate::specs::Operations::binary_code))]
 pub fn emit_binary(
     buffer: &mut Buffer,
@@ -159,7 +159,7 @@ pub fn emit_binary(
     }
 }
 
-/// What an operator of a chain makes of two operands.
+/// Emits an operator of a chain, given the kinds of its two operands. Returns the kind of the result.
 pub fn emit_operator(
     buffer: &mut Buffer,
     operator: Operator,
@@ -177,7 +177,7 @@ pub fn emit_operator(
     }
 }
 
-// The op of a division.
+// Returns the op of a division.
 fn division_op(division: Division) -> OpDivision
     ensures { result ≡ division_op division }
 {
@@ -187,7 +187,7 @@ fn division_op(division: Division) -> OpDivision
     }
 }
 
-// Notes a divisor that is less than 1.
+// Notes `Limit` if a divisor is less than 1.
 fn check_divisor(buffer: &mut Buffer, divisor: i64)
     ensures { buffer.new ≡ divisor_noted divisor buffer.old }
 {
@@ -196,7 +196,7 @@ fn check_divisor(buffer: &mut Buffer, divisor: i64)
     }
 }
 
-/// A division by a number, which has to be 1 or more.
+/// Emits a division by a number, which must be at least 1. Returns the kind of the result.
 #[tactic(auto, unfolding(crate::specs::Operations::division_code))]
 pub fn emit_division(
     buffer: &mut Buffer,

@@ -1,14 +1,14 @@
-//! The ops of a code that is being laid out. The buffer keeps them.
+//! The ops of a code that is being emitted. The buffer contains them.
 
 ghost use Rattle.std.specs.Prelude.{◌≡◌, ◌<◌, ◌≤◌, ◌↔◌, [], ◌∷◌, ◌++◌, length, IsTrue, OnOk};
-ghost use Rattle.bb_code.specs.Limits.{OP_LIMIT};
+ghost use Rattle.bb_code.specs.declared.parts.TheConstants.{OP_LIMIT};
 ghost use Rattle.bb_compile_buffer.specs.Buffers.{aimed, aimed_at};
 
 use bb_code::{OP_LIMIT, Op};
 use std::alloc::{AllocError, Global};
 use std::marker::Model;
 
-/// At most `OP_LIMIT` ops in order. Contracts see them as their list.
+/// At most `OP_LIMIT` ops, in order. Contracts see them as a list.
 #[derive(Drop)]
 pub struct Ops {
     ops: Vec<Op>,
@@ -16,7 +16,7 @@ pub struct Ops {
 
 impl Model for Ops {
     ghost use Rattle.std.specs.Prelude.{◌≤◌, List, length};
-    ghost use Rattle.bb_verify_frame.specs.Op.{Op as OneOp};
+    ghost use Rattle.bb_verify_effect.specs.Op.{Op as OneOp};
 
     ghost Value = { List OneOp };
 
@@ -25,7 +25,7 @@ impl Model for Ops {
     ghost invariant = { λ o. length o.ops.items ≤ 4096 };
 }
 
-// An op with another place to go to, if it goes to one.
+// Returns an op with another target, if it has a target.
 fn aimed(op: Op, place: u16) -> Op
     ensures { result ≡ aimed op place }
 {
@@ -41,7 +41,7 @@ fn aimed(op: Op, place: u16) -> Op
 }
 
 impl Ops {
-    /// No op. It allocates nothing.
+    /// Creates an empty list. Allocates nothing.
     pub fn new(alloc: Global) -> Ops
         ensures { result ≡ [] }
     {
@@ -50,21 +50,21 @@ impl Ops {
         }
     }
 
-    /// The place of the next op.
+    /// Returns the place of the next op.
     pub fn here(&self) -> u16
         ensures { result ≡ length self.now }
     {
         self.ops.len() as u16
     }
 
-    /// Whether there is no room for one more.
+    /// Returns whether no more ops fit.
     pub fn is_full(&self) -> bool
         ensures { IsTrue result ↔ OP_LIMIT ≤ length self.now }
     {
         self.ops.len() >= OP_LIMIT as usize
     }
 
-    /// Appends an op, where there is room.
+    /// Appends an op. It must fit.
     pub fn push(&mut self, op: Op) -> Result<(), AllocError>
         requires { length self.old < OP_LIMIT }
         ensures { OnOk result (self.new ≡ self.old ++ op ∷ []) }
@@ -73,7 +73,7 @@ impl Ops {
         Ok(())
     }
 
-    /// Has the op at a place go to the place of the next op.
+    /// Sets the target of the op at a place to the place of the next op.
     pub fn aim(&mut self, at: u16)
         ensures { self.new ≡ aimed_at at self.old }
     {
@@ -84,7 +84,7 @@ impl Ops {
         self.ops[at as usize] = aimed(op, here);
     }
 
-    /// The ops.
+    /// Returns the ops.
     pub fn into_vec(self) -> Vec<Op>
         ensures { result.items ≡ self }
     {

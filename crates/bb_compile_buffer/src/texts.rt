@@ -1,23 +1,23 @@
-//! The texts of a code that is being laid out. The buffer keeps them.
+//! The texts of a code that is being emitted. The buffer contains them.
 
 ghost use Rattle.std.specs.Prelude.{◌≡◌, ◌<◌, ◌≤◌, [], ◌∷◌, ◌++◌, length, position, None, IfSome, OnOk};
 ghost use Rattle.std.specs.Str.{bytes_eq};
-ghost use Rattle.bb_code.specs.Limits.{TEXT_COUNT_LIMIT};
+ghost use Rattle.bb_code.specs.declared.parts.TheConstants.{TEXT_COUNT_LIMIT};
 
 use bb_basis::{Items, Names, Text};
 use bb_code::TEXT_COUNT_LIMIT;
 use std::alloc::{AllocError, Global};
 use std::marker::Model;
 
-/// At most `TEXT_COUNT_LIMIT` different texts in the order of their first use, each found without a scan. Contracts see
-/// them as their list.
+/// At most `TEXT_COUNT_LIMIT` different texts, in the order of first use, with an index, so that lookups do not scan.
+/// Contracts see them as a list.
 pub struct Texts {
     alloc: Global,
     texts: Vec<Text>,
     names: Names,
 }
 
-// By hand, so that a proof meets one call where texts are dropped, and not the parts of an index.
+// Written by hand, so that a proof meets one call when texts are dropped, not the parts of an index.
 impl Drop for Texts {
     fn drop(self) {
         let Texts {
@@ -39,7 +39,7 @@ impl Model for Texts {
 }
 
 impl Texts {
-    /// No text. It allocates nothing.
+    /// Creates an empty list. Allocates nothing.
     pub fn new(alloc: Global) -> Texts
         ensures { result ≡ [] }
     {
@@ -50,19 +50,19 @@ impl Texts {
         }
     }
 
-    /// The allocator of the texts.
+    /// Returns the allocator of the texts.
     pub fn alloc(&self) -> Global {
         self.alloc
     }
 
-    /// The number of texts.
+    /// Returns the number of texts.
     pub fn len(&self) -> u16
         ensures { result ≡ length self.now }
     {
         self.texts.len() as u16
     }
 
-    /// The index of a text, if it is there.
+    /// Returns the index of a text, if it is in the list.
     pub fn index_of(&self, text: &str) -> Option<u16>
         ensures { result ≡ position (bytes_eq text.now) self.now }
     {
@@ -70,7 +70,7 @@ impl Texts {
         Some(index as u16)
     }
 
-    /// Appends a text that is not there yet, where there is room.
+    /// Appends a text that is not in the list yet. It must fit.
     pub fn push(&mut self, text: &str) -> Result<(), AllocError>
         requires room { length self.old < TEXT_COUNT_LIMIT }
         requires fresh { position (bytes_eq text.now) self.old ≡ None }
@@ -83,7 +83,7 @@ impl Texts {
         Ok(())
     }
 
-    /// The texts.
+    /// Returns the texts.
     pub fn into_items(self) -> Items<Text>
         ensures { result ≡ self }
     {

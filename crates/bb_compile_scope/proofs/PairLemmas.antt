@@ -1,6 +1,6 @@
 -- Loops over the locals that change each of them by that of another list.
 use Rattle.std.proofs.Common.{◌≡◌, ℕ, zero, suc, ◌+◌, ◌<◌, ◌≤◌, List, [], ◌∷◌, ◌++◌, length, take, drop, get_or, set, refl, ap, ◌∙◌, arith}
-use Rattle.bb_verify_frame.specs.Kind.{Kind}
+use Rattle.bb_verify_effect.specs.Kind.{Kind}
 use Rattle.bb_compile_scope.specs.LocalKinds.{paired}
 
 module _ (f : Kind → Kind → Kind) (d : Kind) where

@@ -4,14 +4,14 @@ use Rattle.bb_lang.specs.Action.{Action}
 use Rattle.bb_lang.specs.Action.TheVariants.{Rate, Decline, Answer}
 use Rattle.bb_lang.specs.Blocks.{BlockTree, StatementTree, OtherwiseTree, no_statement, before_others, action, if_of, with_of, for_of, absent, otherwise}
 
--- a statement without blocks that ends
+-- a statement without blocks ends the part
 abbrev pub ends : Action → Bool
 ends (Rate value) = true
 ends Decline = true
 ends (Answer value) = true
 ends _ = false
 
--- each path through ends
+-- each path through it ends
 unfoldable mutual
   pub always_ends : StatementTree → Bool
   always_ends (action a) = ends a

@@ -1,4 +1,4 @@
--- What is wrong with a source, by its number.
+-- The numbers of the faults of sources in the compiler.
 use Rattle.std.specs.Prelude.{ℕ, nat_lt, Option, Some, None, if◌then◌else◌}
 use Rattle.bb_compile_scope.specs.declared.fault.TextFlaw.{TextFlaw}
 use Rattle.bb_compile_scope.specs.declared.fault.TextFlaw.TheVariants.{Unknown, Kind, DeadName, LinkClass, Space, Effect, NoEnd, Limit}
@@ -16,7 +16,7 @@ flaw_number Effect = 6
 flaw_number NoEnd = 7
 flaw_number Limit = 8
 
--- of the flaws that were seen and one more the one of the least number
+-- of the flaws seen so far and another one, the one with the lowest number
 unfoldable pub lowest : Option TextFlaw → TextFlaw → TextFlaw
 lowest None flaw = flaw
 lowest (Some first) flaw = if nat_lt (flaw_number first) (flaw_number flaw) then first else flaw

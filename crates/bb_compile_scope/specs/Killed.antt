@@ -1,11 +1,11 @@
--- What the body of a loop leaves of the names that are live: a name is not live at the loop's start if the body assigns
--- to it, or may delete a unit of its class.
+-- Which names are live at a loop's start: a name is not live there if the body assigns to it, or may delete a unit of
+-- its class.
 use Rattle.std.specs.Prelude.{ℕ, List, map, set, position, Option, Some, None, option_map, option_and_then, Result, Ok, Err}
 use Rattle.std.specs.Option.{option_map_or}
 use Rattle.bb_schema.specs.Schema.{Schema, class_named}
-use Rattle.bb_verify_frame.specs.Kind.{Kind}
-use Rattle.bb_verify_frame.specs.Kind.TheVariants as kinds
-use Rattle.bb_verify_frame.specs.Kinds.{struck}
+use Rattle.bb_verify_effect.specs.Kind.{Kind}
+use Rattle.bb_verify_effect.specs.Kind.TheVariants as kinds
+use Rattle.bb_verify_effect.specs.Kinds.{struck}
 use Rattle.bb_lang.specs.Atom.TheVariants as atoms
 use Rattle.bb_lang.specs.Variable.{Variable}
 use Rattle.bb_lang.specs.Sequence.{Sequence}
@@ -22,26 +22,26 @@ use Rattle.bb_compile_scope.specs.LocalKinds.{is_free, kind_at}
 use Rattle.bb_compile_scope.specs.Scope.{name_of, local_of, kind_of, with_name, mark_of, back_to}
 use Rattle.bb_compile_scope.specs.Slots.{link_slot, partner_slot}
 
--- the answer of a call that had no fault
+-- the result of a call, if it had no fault
 abbrev pub unless_fault : {X E : Type 0} → Result X E → Option X
 unless_fault (Ok x) = Some x
 unless_fault (Err e) = None
 
--- a name of a unit, where its class is known
+-- the kind that a name is declared with: a live unit's, if its class is known
 abbrev pub unit_kind : Option ℕ → Kind
 unit_kind None = kinds.Int
 unit_kind (Some class) = kinds.Ref class
 
--- a name is declared for the lowest free local, if there is one
+-- after the declaration of a name for the lowest free local, if there is one
 unfoldable pub declared : (name : List ℕ) → (class : Option ℕ) → Scope → Scope
 declared name class scope =
     option_map_or (λ local. with_name name local (unit_kind class) scope) (position is_free scope.kinds) scope
 
--- the class of the unit of a name
+-- the class of the unit that a name stands for
 unfoldable pub unit_class : Scope → Variable → Option ℕ
 unit_class scope unit = option_and_then class_of (kind_of scope (name_of unit))
 
--- the class of the unit that an expression is; a chain without steps is its first operand
+-- the class of the unit that is an expression's value; a chain without steps is its first operand
 abbrev pub value_class : Scope → ExprTree → Option ℕ
 value_class scope (atom (atoms.Variable unit)) = unit_class scope unit
 value_class scope (chain first no_step) = value_class scope first
@@ -63,22 +63,22 @@ bound_class s scope (As name unit class) = class_named s class
 bound_class s scope (Linked name unit slot) =
     option_and_then (λ class. option_map (λ p. p.1) (unless_fault (partner_slot s class slot))) (unit_class scope unit)
 
--- the unit of a local may be deleted
+-- the unit of a local, if it holds one, is marked: it may be deleted
 abbrev pub with_old : (local : ℕ) → Option ℕ → Scope → Scope
 with_old local None scope = scope
 with_old local (Some class) scope = record scope { kinds = set scope.kinds local (kinds.Old class) }
 
--- a name to which another unit may be assigned
+-- after an assignment to a name: another unit may be assigned to it
 unfoldable pub killed_name : (name : List ℕ) → Scope → Scope
 killed_name name scope =
     option_map_or (λ local. with_old local (class_of (kind_at scope.kinds local)) scope) (local_of scope name) scope
 
--- the units that may be deleted once a unit of a class is
+-- after a delete of a unit, if its class is known: all units that may go with it are marked
 abbrev pub struck_units : Schema → Option ℕ → Scope → Scope
 struck_units s None scope = scope
 struck_units s (Some class) scope = record scope { kinds = map (struck s class) scope.kinds }
 
--- a statement without blocks
+-- after a statement without blocks
 unfoldable pub killed_action : Schema → Scope → Action → Scope
 killed_action s scope (Let name value) = declared name (value_class scope value) scope
 killed_action s scope (New name class) = declared name (class_named s class) scope
@@ -86,11 +86,11 @@ killed_action s scope (Assign name value) = killed_name name scope
 killed_action s scope (Delete unit) = struck_units s (unit_class scope unit) scope
 killed_action s scope _ = scope
 
--- a block, where its statements leave this scope
+-- after a block whose statements leave `after`
 abbrev pub after_block : (before after : Scope) → Scope
 after_block before after = back_to (mark_of before) after
 
--- statements, each once: all paths are taken
+-- after statements: each is walked once, as if all paths were taken
 unfoldable mutual
   pub killed_statement : Schema → Scope → StatementTree → Scope
   killed_statement s scope (action a) = killed_action s scope a
@@ -114,6 +114,6 @@ unfoldable mutual
 abbrev pub killed_block : Schema → Scope → BlockTree → Scope
 killed_block s scope b = after_block scope (killed_statements s scope b)
 
--- a block after the declaration of a name for a unit
+-- after a block that begins with the declaration of a name for a unit
 abbrev pub killed_under : Schema → Scope → (name : List ℕ) → (class : Option ℕ) → BlockTree → Scope
 killed_under s scope name class b = after_block scope (killed_block s (declared name class scope) b)

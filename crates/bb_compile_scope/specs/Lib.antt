@@ -10,11 +10,11 @@ pub mod Scope
 pub mod Slots
 -- which statements always end
 pub mod Ending
--- what the body of a loop leaves of the names that are live
+-- which names are live at a loop's start
 pub mod Killed
--- what crates above know of codes, texts and schemas
-pub use Rattle.bb_verify_frame.specs.Part
-pub use Rattle.bb_verify_frame.specs.Kinds as FrameKinds
-pub use Rattle.bb_lang_token.specs.declared.place.Place
--- what only measures and proofs speak of
+-- re-exports for the crates that depend on this one
+pub use Rattle.bb_verify_effect.specs.Part
+pub use Rattle.bb_verify_effect.specs.Kinds as FrameKinds
+pub use Rattle.bb_lang_tree.specs.declared.place.Place
+-- definitions used only in measures and proofs
 pub mod proving

@@ -1,8 +1,8 @@
--- What the locals of a code hold, by their numbers.
+-- What the locals of a code hold, indexed by local.
 use Rattle.std.specs.Prelude.{ℕ, Bool, true, false, List, [], ◌∷◌, replicate, slice_get, unwrap_or, if◌then◌else◌}
-use Rattle.bb_verify_frame.specs.Kind.{Kind}
-use Rattle.bb_verify_frame.specs.Kind.TheVariants.{Any}
-use Rattle.bb_code.specs.Limits.{LOCAL_LIMIT}
+use Rattle.bb_verify_effect.specs.Kind.{Kind}
+use Rattle.bb_verify_effect.specs.Kind.TheVariants.{Any}
+use Rattle.bb_code.specs.declared.parts.TheConstants.{LOCAL_LIMIT}
 use Rattle.bb_compile_scope.specs.Kinds.{is_live}
 
 -- the local is free
@@ -18,7 +18,7 @@ all_free = replicate LOCAL_LIMIT Any
 abbrev pub kind_at : List Kind → ℕ → Kind
 kind_at kinds local = unwrap_or (slice_get kinds local) Any
 
--- what f makes of two kinds, local by local
+-- f applied to two lists of kinds, local by local
 unfoldable pub paired : (Kind → Kind → Kind) → List Kind → List Kind → List Kind
 paired f (k ∷ ks) (l ∷ ls) = f k l ∷ paired f ks ls
 paired f _ _ = []

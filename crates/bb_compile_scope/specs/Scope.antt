@@ -1,10 +1,10 @@
 -- The names in scope.
 use Rattle.std.specs.Prelude.{ℕ, List, [], ◌∷◌, ◌++◌, length, take, set, find, Option, option_map, codes}
 use Rattle.std.specs.Str.{bytes_eq}
-use Rattle.bb_verify_frame.specs.Kind.{Kind}
-use Rattle.bb_verify_frame.specs.Kind.TheVariants.{Old}
-use Rattle.bb_verify_frame.specs.declared.part.Part.{Part}
-use Rattle.bb_verify_frame.specs.declared.part.Part.TheVariants.{Require, Obviate, Retrigger, Revalidate, Do}
+use Rattle.bb_verify_effect.specs.Kind.{Kind}
+use Rattle.bb_verify_effect.specs.Kind.TheVariants.{Old}
+use Rattle.bb_verify_effect.specs.declared.part.Part.{Part}
+use Rattle.bb_verify_effect.specs.declared.part.Part.TheVariants.{Require, Obviate, Retrigger, Revalidate, Do}
 use Rattle.bb_lang.specs.Variable.{Variable}
 use Rattle.bb_lang.specs.Variable.TheVariants.{It, Ev, Named}
 use Rattle.bb_compile_scope.specs.declared.scope.NamedLocal.{NamedLocal}
@@ -26,14 +26,14 @@ local_of scope name = option_map (λ n. n.local) (find (λ n. bytes_eq n.name na
 abbrev pub kind_of : Scope → (name : List ℕ) → Option Kind
 kind_of scope name = option_map (kind_at scope.kinds) (local_of scope name)
 
--- one more name, for a local that holds a value of this kind
+-- the scope with another name, for a local that holds a value of this kind
 abbrev pub with_name : (name : List ℕ) → (local : ℕ) → Kind → Scope → Scope
 with_name name local kind scope = record {
   names = scope.names ++ record { name = name; local = local } ∷ [];
   kinds = set scope.kinds local kind;
 }
 
--- no name
+-- the scope without names
 abbrev pub no_name : Scope
 no_name = record { names = []; kinds = all_free }
 
@@ -51,10 +51,10 @@ begin_with (Retrigger class of) = of_event class of
 begin_with (Revalidate class) = of_unit class
 begin_with (Do class) = of_unit class
 
--- a scope as it is, to go back to
+-- the mark of a scope, to return to
 abbrev pub mark_of : Scope → Mark
 mark_of scope = record { names = length scope.names; kinds = scope.kinds }
 
--- the names that were declared since then are forgotten, and their locals are free
+-- the scope without the names declared since the mark, and with their locals free
 abbrev pub back_to : Mark → Scope → Scope
 back_to mark scope = record { names = take mark.names scope.names; kinds = kinds_left mark.kinds scope.kinds }

@@ -1,3 +1,3 @@
--- What only measures and proofs speak of.
--- how large statements are
+-- Definitions used only in measures and proofs.
+-- the size of statements
 pub mod Sizes

@@ -1,4 +1,4 @@
-//! Which statements always end. A part other than `do` has to.
+//! Which statements always end. Every path through a part other than `do` must end.
 
 ghost use Rattle.std.specs.Prelude.{◌≡◌};
 ghost use Rattle.bb_lang.specs.BlockView.{statement_of, otherwise_of};
@@ -6,7 +6,7 @@ ghost use Rattle.bb_compile_scope.specs.Ending.{ends, otherwise_ends, always_end
 
 use bb_lang::{Action, Block, Statement};
 
-/// Whether a statement without blocks ends.
+/// Returns whether a statement without blocks ends the part.
 pub fn ends(action: &Action) -> bool
     ensures { result ≡ ends action.now }
 {
@@ -18,7 +18,7 @@ pub fn ends(action: &Action) -> bool
     }
 }
 
-// Whether each path through an `else` ends.
+// Returns whether each path through an `else` ends.
 #[cycle(ends)]
 #[tactic(auto, unfolding(crate::specs::Ending::otherwise_ends))]
 fn otherwise_ends(otherwise: &Option<Block>) -> bool
@@ -30,7 +30,7 @@ fn otherwise_ends(otherwise: &Option<Block>) -> bool
     }
 }
 
-// Whether each path through a statement ends.
+// Returns whether each path through a statement ends.
 #[cycle(ends)]
 #[tactic(auto, unfolding(crate::specs::Ending::always_ends))]
 fn always_ends(statement: &Statement) -> bool
@@ -48,7 +48,7 @@ fn always_ends(statement: &Statement) -> bool
     }
 }
 
-/// Whether each path through a block ends.
+/// Returns whether each path through a block ends.
 #[cycle(ends)]
 #[tactic(auto, unfolding(crate::specs::Ending::block_ends))]
 pub fn block_ends(block: &Block) -> bool

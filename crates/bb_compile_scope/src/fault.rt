@@ -1,4 +1,4 @@
-//! Why a source has no code. Refusal lines name it by its number.
+//! Faults of sources in the compiler. Refusal lines have their numbers.
 
 ghost use Rattle.std.specs.Prelude.{◌≡◌};
 ghost use Rattle.bb_compile_scope.specs.declared.fault.CompileFault.TheVariants.{Memory as OutOfMemory};
@@ -11,16 +11,16 @@ use thiserror::Error;
 /// What is wrong with a statement, a part or a clause.
 #[derive(Clone, Copy, Debug, PartialEq, Eq, Error)]
 pub enum TextFlaw {
-    /// A name, class, slot, space or label that is not there, or a dimension that is not there for the relation.
+    /// A name, class, slot, space or label that does not exist, or a dimension that does not exist for the relation.
     #[error("a name that is not there")]
     Unknown,
     /// A value or a slot of a wrong kind.
     #[error("a value or a slot of a wrong kind")]
     Kind,
-    /// A unit that may be deleted, where a live one is needed.
+    /// A unit that may have been deleted, where a live one is needed.
     #[error("a unit that may be deleted")]
     DeadName,
-    /// The unit's class can't be linked by the slot.
+    /// The link slot cannot link units of the unit's class.
     #[error("a unit whose class the link does not lead to")]
     LinkClass,
     /// The space does not admit the unit's class.
@@ -29,16 +29,17 @@ pub enum TextFlaw {
     /// A change outside `do`.
     #[error("a change outside `do`")]
     Effect,
-    /// A statement that ends another part, a statement after one that always ends, or a part that can run past its end.
+    /// A statement that ends a different part, a statement after one that always ends, or a part that can run past its
+    /// end.
     #[error("an end that does not belong there, or none")]
     NoEnd,
-    /// The code would pass one of its limits.
+    /// The code would exceed one of its limits.
     #[error("the code would be too large")]
     Limit,
 }
 
 impl TextFlaw {
-    /// The number of the flaw, from 1 to 8. Of several of one statement the least is answered.
+    /// Returns the number of the flaw, from 1 to 8. If a statement has several flaws, the lowest is reported.
     pub fn number(self) -> u8
         ensures { result ≡ flaw_number self }
     {
@@ -55,7 +56,7 @@ impl TextFlaw {
     }
 }
 
-/// Of the flaws of a statement that were seen so far and one more the one of the least number.
+/// Returns the flaw with the lower number: the lowest seen so far in a statement, or another.
 #[tactic(auto, unfolding(crate::specs::Faults::lowest))]
 pub fn lowest(seen: Option<TextFlaw>, flaw: TextFlaw) -> TextFlaw
     ensures { result ≡ lowest seen flaw }
@@ -71,10 +72,10 @@ pub fn lowest(seen: Option<TextFlaw>, flaw: TextFlaw) -> TextFlaw
     }
 }
 
-/// What is wrong with a source: the flaw of the lowest place, at one place that of the lowest number.
+/// What is wrong with a source: the flaw at the first location and, of several there, the one with the lowest number.
 #[derive(Clone, Copy, Debug, PartialEq, Eq, Error)]
 pub enum CompileFault {
-    /// The flaw of what begins at the place.
+    /// A flaw of the statement, part or clause that begins at the place.
     #[error("line {line}, column {column}: {flaw}", line = .place.line, column = .place.column)]
     At { flaw: TextFlaw, place: Place },
     /// Memory ran out.
@@ -83,7 +84,7 @@ pub enum CompileFault {
 }
 
 impl CompileFault {
-    /// The number by which a refusal line names the fault, from 1 to 9.
+    /// Returns the number of the fault in a refusal line, from 1 to 9.
     pub fn number(self) -> u8
         ensures { result ≡ fault_number self }
     {

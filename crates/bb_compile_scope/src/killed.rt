@@ -1,5 +1,5 @@
-//! What a loop's body leaves of the names that are live: at the loop's start a name is not live if the body assigns to
-//! it, or may delete a unit of its class. Whoever lays a loop out calls `kill_under`.
+//! Which names are live at a loop's start: a name is not live there if the body assigns to it, or may delete a unit of
+//! its class. The emission of loops calls `kill_under`.
 
 ghost use Rattle.std.specs.Prelude.{◌≡◌, OnOk};
 ghost use Rattle.bb_lang.specs.BlockView.{statement_of, otherwise_of};
@@ -12,10 +12,10 @@ use crate::scope::{Scope, name_of};
 use crate::slots::{link_slot, partner_slot};
 use bb_basis::Text;
 use bb_lang::{Action, Atom, Binding, Block, Expr, ExprNode, Sequence, Statement, Variable};
-use bb_verify_frame::{ClassId, Kind, Schema};
+use bb_verify_effect::{ClassId, Kind, Schema};
 use std::alloc::{AllocError, Global};
 
-// What a name is declared to hold, as far as it is a unit.
+// Returns the kind that a name is declared with: a live unit's, or, if no class is known, one that is not a unit's.
 fn unit_kind(class: Option<ClassId>) -> Kind
     ensures { result ≡ unit_kind class }
 {
@@ -41,7 +41,7 @@ fn declare(
     scope.name_local(alloc, name.as_str(), local, unit_kind(class))
 }
 
-// The class of the unit of a name.
+// Returns the class of the unit that a name stands for.
 #[tactic(auto, unfolding(crate::specs::Killed::unit_class))]
 fn unit_class(scope: &Scope, unit: &Variable) -> Option<ClassId>
     ensures { result ≡ unit_class scope.now unit.now }
@@ -49,7 +49,7 @@ fn unit_class(scope: &Scope, unit: &Variable) -> Option<ClassId>
     class_of(scope.kind_of(name_of(unit))?)
 }
 
-// The class of the unit that an expression is. A chain without steps is its first operand.
+// Returns the class of the unit that is an expression's value. A chain without steps is its first operand.
 fn value_class(scope: &Scope, value: &Expr) -> Option<ClassId>
     ensures { result ≡ value_class scope.now value.now }
 {
@@ -63,7 +63,7 @@ fn value_class(scope: &Scope, value: &Expr) -> Option<ClassId>
     }
 }
 
-// The class of the units of a sequence.
+// Returns the class of the units of a sequence.
 fn sequence_class(schema: &Schema, scope: &Scope, sequence: &Sequence) -> Option<ClassId>
     ensures { result ≡ sequence_class schema.now scope.now sequence.now }
 {
@@ -77,7 +77,7 @@ fn sequence_class(schema: &Schema, scope: &Scope, sequence: &Sequence) -> Option
     }
 }
 
-// The name that a `with` declares.
+// Returns the name that a `with` declares.
 fn bound_name(binding: &Binding) -> &Text
     ensures { result.now ≡ bound_name binding.now }
 {
@@ -87,7 +87,7 @@ fn bound_name(binding: &Binding) -> &Text
     }
 }
 
-// The class of the unit that a `with` declares a name for.
+// Returns the class of the unit that a `with` declares a name for.
 fn bound_class(schema: &Schema, scope: &Scope, binding: &Binding) -> Option<ClassId>
     ensures { result ≡ bound_class schema.now scope.now binding.now }
 {
@@ -101,7 +101,7 @@ fn bound_class(schema: &Schema, scope: &Scope, binding: &Binding) -> Option<Clas
     }
 }
 
-// Marks the unit of a name that is assigned to, which may be deleted from then on.
+// Marks the unit of a name that is assigned to: from then on it may be a deleted one.
 #[tactic(auto, unfolding(crate::specs::Killed::killed_name))]
 fn kill_name(scope: &mut Scope, name: &Text)
     ensures { scope.new ≡ killed_name name.now scope.old }
@@ -114,7 +114,7 @@ fn kill_name(scope: &mut Scope, name: &Text)
     }
 }
 
-// Goes over a statement without blocks.
+// Walks a statement without blocks.
 #[tactic(auto, unfolding(crate::specs::Killed::killed_action))]
 fn kill_action(
     alloc: Global,
@@ -147,7 +147,7 @@ fn kill_action(
     }
 }
 
-// Goes over the block of an `else`, where there is one.
+// Walks the block of an `else`, if there is one.
 #[cycle(kill)]
 #[tactic(auto, unfolding(crate::specs::Killed::killed_otherwise))]
 fn kill_otherwise(
@@ -164,8 +164,8 @@ fn kill_otherwise(
     }
 }
 
-/// Goes over a block in which a name is declared for a unit, and marks the names that are not live after some path
-/// through it.
+/// Walks a block in which a name is declared for a unit, and marks the names that are not live after some path through
+/// it.
 #[cycle(kill)]
 pub fn kill_under(
     alloc: Global,
@@ -184,7 +184,7 @@ pub fn kill_under(
     Ok(())
 }
 
-// Goes over a statement.
+// Walks a statement.
 #[cycle(kill)]
 #[tactic(auto, unfolding(crate::specs::Killed::killed_statement))]
 fn kill_statement(
@@ -220,7 +220,7 @@ fn kill_statement(
     }
 }
 
-// Goes over a block.
+// Walks a block.
 #[cycle(kill)]
 #[tactic(auto, unfolding(crate::specs::Killed::killed_statements))]
 fn kill(alloc: Global, schema: &Schema, scope: &mut Scope, block: &Block) -> Result<(), AllocError>

@@ -1,13 +1,13 @@
-//! What follows from the kinds of values: which are units, and which may be compared and assigned. The judgement of
-//! statements goes by it.
+//! What follows from the kinds of values: which are units, and which may be compared and assigned. The checks of
+//! statements call it.
 
 ghost use Rattle.std.specs.Prelude.{◌≡◌};
 ghost use Rattle.bb_compile_scope.specs.Kinds.{class_of, is_live, unit_of, equality, assigned};
 
 use bb_code::Comparison;
-use bb_verify_frame::{ClassId, Kind, Op, Schema, is_same_plain};
+use bb_verify_effect::{ClassId, Kind, Op, Schema, is_same_plain};
 
-/// The class of a unit, where the kind is that of one.
+/// Returns the class of a unit, if the kind is a unit's.
 pub fn class_of(kind: Kind) -> Option<ClassId>
     ensures { result ≡ class_of kind }
 {
@@ -18,7 +18,7 @@ pub fn class_of(kind: Kind) -> Option<ClassId>
     }
 }
 
-/// Whether the kind is that of a unit that is live.
+/// Returns whether the kind is a live unit's.
 pub fn is_live(kind: Kind) -> bool
     ensures { result ≡ is_live kind }
 {
@@ -28,7 +28,7 @@ pub fn is_live(kind: Kind) -> bool
     }
 }
 
-// A unit of a class: live, or perhaps deleted.
+// Returns the kind of a unit of a class: live, or perhaps deleted.
 fn unit_of(live: bool, class: ClassId) -> Kind
     ensures { result ≡ unit_of live class }
 {
@@ -39,7 +39,8 @@ fn unit_of(live: bool, class: ClassId) -> Kind
     }
 }
 
-/// The op that tests whether two values are equal: numbers, texts, labels of a set, or units.
+/// Returns the op that tests whether two values are equal: numbers, texts, labels of one set, or units. `None`: values
+/// of these kinds cannot be compared.
 #[tactic(auto, unfolding(crate::specs::Kinds::equality))]
 pub fn equality(left: Kind, right: Kind) -> Option<Op>
     ensures { result ≡ equality left right }
@@ -58,8 +59,8 @@ pub fn equality(left: Kind, right: Kind) -> Option<Op>
     }
 }
 
-/// What a name holds once a value is assigned to it, if it may be: both are of one kind, or units, the value's class
-/// descending from the name's.
+/// Returns what a name holds after a value is assigned to it. `None`: it may not be assigned. It may if both are of one
+/// kind, or are units and the value's class descends from the name's.
 #[tactic(auto, unfolding(crate::specs::Kinds::assigned, crate::specs::Kinds::assigned_unit))]
 pub fn assigned(schema: &Schema, held: Kind, value: Kind) -> Option<Kind>
     ensures { result ≡ assigned schema.now held value }

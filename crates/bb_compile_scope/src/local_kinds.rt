@@ -1,16 +1,16 @@
-//! What the locals of a code hold at a place. A scope keeps it, and frames are made of it.
+//! What the locals of a code hold at a place. A scope contains it, and frames are made of it.
 
 ghost use Rattle.std.specs.Prelude.{◌≡◌, ◌<◌, length, map, set, position, IfSome};
-ghost use Rattle.bb_verify_frame.specs.Kinds.{struck};
-ghost use Rattle.bb_code.specs.Limits.{LOCAL_LIMIT};
+ghost use Rattle.bb_verify_effect.specs.Kinds.{struck};
+ghost use Rattle.bb_code.specs.declared.parts.TheConstants.{LOCAL_LIMIT};
 ghost use Rattle.bb_compile_scope.specs.LocalKinds.{is_free, all_free, kind_at, left_kind, met_kind, kinds_left, kinds_met};
 
 use crate::kinds::is_live;
 use bb_code::LOCAL_LIMIT;
-use bb_verify_frame::{ClassId, Kind, LocalId, Schema, mark_stale};
+use bb_verify_effect::{ClassId, Kind, LocalId, Schema, mark_stale};
 use std::marker::Model;
 
-/// What each of the locals that a code may have holds: `Any` where it is free. Contracts see it as a list.
+/// What each of the locals that a code may have holds: `Any` if it is free. Contracts see it as a list.
 #[derive(Drop)]
 pub struct LocalKinds {
     kinds: [Kind; LOCAL_LIMIT as usize],
@@ -18,7 +18,7 @@ pub struct LocalKinds {
 
 impl Model for LocalKinds {
     ghost use Rattle.std.specs.Prelude.{◌≡◌, List, length};
-    ghost use Rattle.bb_verify_frame.specs.Kind.{Kind as Held};
+    ghost use Rattle.bb_verify_effect.specs.Kind.{Kind as Held};
 
     ghost Value = { List Held };
 
@@ -27,7 +27,7 @@ impl Model for LocalKinds {
     ghost invariant = { λ l. length l.kinds ≡ 32 };
 }
 
-// Whether a local of this kind is free.
+// Returns whether a local of this kind is free.
 fn is_free(kind: Kind) -> bool
     ensures { result ≡ is_free kind }
 {
@@ -37,21 +37,21 @@ fn is_free(kind: Kind) -> bool
     }
 }
 
-// What a local holds after a block: it is free again if it was free before the block.
+// Returns what a local holds after a block: it is free again if it was free before the block.
 fn left_kind(before: Kind, now: Kind) -> Kind
     ensures { result ≡ left_kind before now }
 {
     if is_free(before) { Kind::Any } else { now }
 }
 
-// What is known of a local where two branches meet: a unit is live if it is live after both.
+// Returns what is known of a local where two branches meet: a unit is live if it is live after both.
 fn met_kind(other: Kind, one: Kind) -> Kind
     ensures { result ≡ met_kind other one }
 {
     if is_live(one) { other } else { one }
 }
 
-// The index of the first free local.
+// Returns the index of the first free local.
 fn first_free(kinds: &[Kind]) -> Option<usize>
     ensures value { result ≡ position is_free kinds.now }
     ensures below { IfSome result (λ i. i < length kinds.now) }
@@ -69,7 +69,7 @@ fn leave_each(before: &[Kind], kinds: &mut [Kind])
     }
 }
 
-// Keeps what is known after another branch too.
+// Keeps only what is known after another branch too.
 fn meet_each(other: &[Kind], kinds: &mut [Kind])
     requires { length other.now ≡ length kinds.old }
     ensures { kinds.new ≡ kinds_met other.now kinds.old }
@@ -80,7 +80,7 @@ fn meet_each(other: &[Kind], kinds: &mut [Kind])
 }
 
 impl LocalKinds {
-    /// The kinds where all locals are free.
+    /// Returns the kinds when all locals are free.
     pub fn new() -> LocalKinds
         ensures { result ≡ all_free }
     {
@@ -89,14 +89,14 @@ impl LocalKinds {
         }
     }
 
-    /// A copy of the kinds.
+    /// Returns a copy of the kinds.
     pub fn copied(&self) -> LocalKinds
         ensures { result ≡ self.now }
     {
         LocalKinds { kinds: self.kinds }
     }
 
-    /// The kinds, by the numbers of locals.
+    /// Returns the kinds, indexed by local.
     pub fn as_slice(&self) -> &[Kind]
         ensures value { result.now ≡ self.now }
         ensures count { length self.now ≡ LOCAL_LIMIT }
@@ -104,7 +104,7 @@ impl LocalKinds {
         &self.kinds
     }
 
-    /// What a local holds.
+    /// Returns what a local holds.
     pub fn get(&self, local: LocalId) -> Kind
         ensures { result ≡ kind_at self.now local }
     {
@@ -123,7 +123,7 @@ impl LocalKinds {
         }
     }
 
-    /// The lowest free local, if there is one.
+    /// Returns the lowest free local, if there is one.
     pub fn free(&self) -> Option<LocalId>
         ensures value { result ≡ position is_free self.now }
         ensures below { IfSome result (λ local. local < LOCAL_LIMIT) }
@@ -131,7 +131,7 @@ impl LocalKinds {
         Some(first_free(&self.kinds)? as LocalId)
     }
 
-    /// Marks the units that may be deleted once a unit of a class is.
+    /// Marks the units that may be deleted when a unit of a class is.
     pub fn strike(&mut self, schema: &Schema, deleted: ClassId)
         ensures { self.new ≡ map (struck schema.now deleted) self.old }
     {
@@ -145,7 +145,7 @@ impl LocalKinds {
         leave_each(&before.kinds, &mut self.kinds);
     }
 
-    /// Keeps what is known after another branch too.
+    /// Keeps only what is known after another branch too.
     pub fn meet(&mut self, other: &LocalKinds)
         ensures { self.new ≡ kinds_met other.now self.old }
     {

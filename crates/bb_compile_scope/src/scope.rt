@@ -1,4 +1,4 @@
-//! The names in scope, and what the locals hold. Whoever goes over statements keeps one.
+//! The names in scope, and what the locals hold. The walks over statements keep one.
 
 ghost use Rattle.std.specs.Prelude.{◌≡◌, IfOk, OnOk};
 ghost use Rattle.bb_compile_scope.specs.Scope.{name_of, local_of, kind_of, with_name, of_unit, of_event, begin_with};
@@ -7,7 +7,7 @@ ghost use Rattle.bb_compile_scope.specs.Scope.{mark_of, back_to};
 use crate::local_kinds::LocalKinds;
 use bb_basis::{Items, Text};
 use bb_lang::Variable;
-use bb_verify_frame::{ClassId, Kind, LocalId, Part};
+use bb_verify_effect::{ClassId, Kind, LocalId, Part};
 use std::alloc::{AllocError, Global};
 
 /// A name in scope with its local.
@@ -24,14 +24,14 @@ pub struct Scope {
     pub kinds: LocalKinds,
 }
 
-/// A scope as it was at a place, to go back to.
+/// A scope as it was at a place, to return to.
 #[derive(Drop)]
 pub struct Mark {
     pub names: usize,
     pub kinds: LocalKinds,
 }
 
-/// The text of a name.
+/// Returns the text of a name.
 pub fn name_of(variable: &Variable) -> &str
     ensures { result.now ≡ name_of variable.now }
 {
@@ -43,7 +43,7 @@ pub fn name_of(variable: &Variable) -> &str
 }
 
 impl Scope {
-    // The names that a part for an activation's unit begins with.
+    // Returns the scope at the start of a part with an activation's unit.
     fn of_unit(alloc: Global, class: ClassId) -> Result<Scope, AllocError>
         ensures { IfOk result (λ scope. scope ≡ of_unit class) }
     {
@@ -55,7 +55,7 @@ impl Scope {
         Ok(scope)
     }
 
-    // The names that a part for an activation's unit and an event's begins with.
+    // Returns the scope at the start of a part with an activation's unit and an event's.
     fn of_event(alloc: Global, class: ClassId, of: ClassId) -> Result<Scope, AllocError>
         ensures { IfOk result (λ scope. scope ≡ of_event class of) }
     {
@@ -64,7 +64,7 @@ impl Scope {
         Ok(scope)
     }
 
-    /// The names that a part begins with.
+    /// Returns the scope at the start of a part.
     pub fn of_part(alloc: Global, part: Part) -> Result<Scope, AllocError>
         ensures { IfOk result (λ scope. scope ≡ begin_with part) }
     {
@@ -93,7 +93,7 @@ impl Scope {
         Ok(())
     }
 
-    /// The local of a name, if it is in scope.
+    /// Returns the local of a name, if it is in scope.
     pub fn local_of(&self, name: &str) -> Option<LocalId>
         ensures { result ≡ local_of self.now name.now }
     {
@@ -105,14 +105,14 @@ impl Scope {
         None
     }
 
-    /// What a name holds, if it is in scope.
+    /// Returns what a name holds, if it is in scope.
     pub fn kind_of(&self, name: &str) -> Option<Kind>
         ensures { result ≡ kind_of self.now name.now }
     {
         Some(self.kinds.get(self.local_of(name)?))
     }
 
-    /// The scope as it is now.
+    /// Marks the scope as it is now.
     pub fn mark(&self) -> Mark
         ensures { result ≡ mark_of self.now }
     {
@@ -122,7 +122,7 @@ impl Scope {
         }
     }
 
-    /// Forgets the names that were declared since then, and frees their locals.
+    /// Removes the names that were declared since the mark, and frees their locals.
     pub fn leave(&mut self, mark: &Mark)
         ensures { self.new ≡ back_to mark.now self.old }
     {

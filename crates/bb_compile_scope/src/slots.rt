@@ -1,4 +1,4 @@
-//! What the names of slots and dimensions mean. The judgement of statements looks them up.
+//! What the names of slots and dimensions mean. The checks of statements look them up.
 
 ghost use Rattle.std.specs.Prelude.{◌≡◌, ◌<◌, IfSome, length, position};
 ghost use Rattle.bb_compile_scope.specs.Slots.{slot_of, value_slot, link_slot, partner_slot, index_of, operand_due, dimension};
@@ -6,9 +6,9 @@ ghost use Rattle.bb_compile_scope.specs.Slots.{slot_of, value_slot, link_slot, p
 use crate::fault::TextFlaw;
 use bb_lang::Relation;
 use bb_schema::{Dim, Kind as SlotKind, LabelSetId, Link};
-use bb_verify_frame::{ClassId, Kind, Schema, SlotId, SpaceId};
+use bb_verify_effect::{ClassId, Kind, Schema, SlotId, SpaceId};
 
-// The slot of a name in a class, with what it can hold.
+// Looks up the slot with a name in a class, with what it can hold.
 #[tactic(auto, unfolding(crate::specs::Slots::slot_of))]
 fn slot_of(schema: &Schema, class: ClassId, name: &str) -> Result<(SlotId, SlotKind), TextFlaw>
     ensures { result ≡ slot_of schema.now class name.now }
@@ -20,7 +20,8 @@ fn slot_of(schema: &Schema, class: ClassId, name: &str) -> Result<(SlotId, SlotK
     Ok((slot, schema.kind(slot)))
 }
 
-/// The ordinary slot of a name in a class, with the kind of its values. `Unknown`: no such slot; `Kind`: a link slot.
+/// Looks up the ordinary slot with a name in a class, with the kind of its values. `Unknown`: there is no such slot.
+/// `Kind`: it is a link slot.
 #[tactic(auto, unfolding(crate::specs::Slots::value_slot))]
 pub fn value_slot(schema: &Schema, class: ClassId, name: &str) -> Result<(SlotId, Kind), TextFlaw>
     ensures { result ≡ value_slot schema.now class name.now }
@@ -36,7 +37,8 @@ pub fn value_slot(schema: &Schema, class: ClassId, name: &str) -> Result<(SlotId
     }
 }
 
-/// The link slot of a name in a class, with its link. `Unknown`: no such slot; `Kind`: an ordinary slot.
+/// Looks up the link slot with a name in a class, with its link. `Unknown`: there is no such slot. `Kind`: it is an
+/// ordinary slot.
 #[tactic(auto, unfolding(crate::specs::Slots::link_slot))]
 pub fn link_slot(schema: &Schema, class: ClassId, name: &str) -> Result<(SlotId, Link), TextFlaw>
     ensures { result ≡ link_slot schema.now class name.now }
@@ -48,7 +50,8 @@ pub fn link_slot(schema: &Schema, class: ClassId, name: &str) -> Result<(SlotId,
     }
 }
 
-/// The singular link slot of a name in a class, with the partner's class. `Unknown`: no such slot; `Kind`: another.
+/// Looks up the singular link slot with a name in a class, with the partner's class. `Unknown`: there is no such slot.
+/// `Kind`: it is another sort of slot.
 #[tactic(auto, unfolding(crate::specs::Slots::partner_slot))]
 pub fn partner_slot(
     schema: &Schema,
@@ -64,14 +67,14 @@ pub fn partner_slot(
     Ok((slot, link.to))
 }
 
-// The index of the dimension of a name.
+// Returns the index of the dimension with a name.
 fn index_of(dims: &[Dim], name: &str) -> Option<usize>
     ensures { result ≡ index_of dims.now name.now }
 {
     dims.iter().position(|dim| dim.name.as_str() == name)
 }
 
-// What the operand of a relation has to be, on a dimension with this label set, or with none.
+// Returns the kind that the operand of a relation must have, on a dimension with this label set, or with none.
 fn operand_due(relation: Relation, set: Option<LabelSetId>) -> Option<Kind>
     ensures { result ≡ operand_due relation set }
 {
@@ -83,7 +86,8 @@ fn operand_due(relation: Relation, set: Option<LabelSetId>) -> Option<Kind>
     }
 }
 
-/// The dimension of a name in a space, with what its operand has to be, if it is there and of the relation's sort.
+/// Looks up the dimension with a name in a space, with the kind that its operand must have. `None`: there is no such
+/// dimension, or the relation does not apply to it.
 #[tactic(auto, unfolding(crate::specs::Slots::dimension))]
 pub fn dimension(
     schema: &Schema,

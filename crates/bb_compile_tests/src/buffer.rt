@@ -1,4 +1,5 @@
-//! Tests of the buffer on which a part's code is laid out, with memory: what each call puts there, and the code of it.
+//! Tests of the buffer that a part's code is emitted to, with enough memory: what each call adds, and the code it
+//! makes.
 
 use bb_basis::{Items, Text};
 use bb_code::{

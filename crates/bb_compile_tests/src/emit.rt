@@ -1,7 +1,7 @@
-//! Tests of the code of a part, with memory, and of the flaw of one that does not end.
+//! Tests of the code of a part, with enough memory, and of the flaw of a part that does not end.
 
 use bb_code::Calculation;
-use bb_compile_emit::{CompileFault, Place, TextFlaw, emit_part};
+use bb_compile::{CompileFault, Place, TextFlaw, emit_part};
 use bb_compile_scope::{Op, Part};
 use bb_lang::{ActText, parse};
 use bb_schema::Schema;

@@ -1,4 +1,4 @@
-//! Tests of what is known where a statement stands, with memory: the names of a part, and what a loop's body leaves.
+//! Tests of what is known at a statement, with enough memory: the names of a part, and what a loop's body leaves.
 
 use bb_basis::Text;
 use bb_compile_scope::{Kind, LocalId, Part, Scope, kill_under};

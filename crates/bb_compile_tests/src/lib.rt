@@ -1,5 +1,4 @@
-//! Tests of the crates that judge texts and emit their code: each public call that can want memory is called with
-//! memory.
+//! Tests of the crates that judge texts and emit their code: every public call that can need memory, with enough of it.
 #![tactic(auto)]
 
 #[cfg(test)]

@@ -4,9 +4,9 @@ use Rattle.std.specs.Prelude.{codes}
 use Rattle.bb_basis.specs.Results.{◌>>=◌, ok_or}
 use Rattle.bb_basis.proofs.ResultLemmas.{bind_ok, same_ok}
 use Rattle.bb_lang_tree.specs.declared.block.Placed.{Placed}
-use Rattle.bb_lang_token.specs.declared.fault.LangFault.{LangFault}
-use Rattle.bb_lang_token.specs.declared.fault.LangFault.TheVariants.{Token, Nesting}
-use Rattle.bb_lang_token.specs.State.{State, next, at, skip}
+use Rattle.bb_lang_tree.specs.declared.fault.LangFault.{LangFault}
+use Rattle.bb_lang_tree.specs.declared.fault.LangFault.TheVariants.{Token, Nesting}
+use Rattle.bb_lang_tree.specs.State.{State, next, at, skip}
 use Rattle.bb_lang_tree.specs.Blocks.{BlockTree}
 use Rattle.bb_lang_tree.specs.BlockView.{block_of}
 use Rattle.bb_lang.specs.Repeats.{as_many}

@@ -3,9 +3,9 @@ use Rattle.std.proofs.Common.{◌≡◌, ◌⊎◌, inl, inr, List, Option, Ok, 
 use Rattle.bb_basis.specs.Results.{◌>>=◌}
 use Rattle.bb_lang.specs.declared.level.Level.{Level}
 use Rattle.bb_lang.specs.declared.level.Level.TheVariants.{Or, And, Sum, Term}
-use Rattle.bb_lang_token.specs.declared.fault.LangFault.{LangFault}
+use Rattle.bb_lang_tree.specs.declared.fault.LangFault.{LangFault}
 use Rattle.bb_lang_tree.specs.declared.tree.Step.{Step}
-use Rattle.bb_lang_token.specs.State.{State}
+use Rattle.bb_lang_tree.specs.State.{State}
 use Rattle.bb_lang_tree.specs.Trees.{ExprTree}
 use Rattle.bb_lang.specs.Repeats.{as_many}
 use Rattle.bb_lang.specs.Expressions.{Inner, step, chained, chain_of, term, sum, conjunction, expr_in, operand_of, chain_at}

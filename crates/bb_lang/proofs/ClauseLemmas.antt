@@ -2,7 +2,7 @@
 use Rattle.std.proofs.Common.{◌≡◌, ℕ, List, [], ◌∷◌, ◌++◌, Ok, sym, ap, ◌∙◌}
 use Rattle.bb_basis.specs.Results.{◌>>=◌}
 use Rattle.bb_lang_tree.specs.declared.source_text.ClauseText.{ClauseText}
-use Rattle.bb_lang_token.specs.State.{State, left}
+use Rattle.bb_lang_tree.specs.State.{State, left}
 use Rattle.bb_lang.specs.Repeats.{repeated, as_many}
 use Rattle.bb_lang.specs.Sources.{clause, next_clause, clauses}
 use Rattle.bb_lang.specs.proving.Fronts.{with_front}

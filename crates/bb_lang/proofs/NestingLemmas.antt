@@ -1,8 +1,8 @@
 -- What an opening bracket gives, by how many more may be opened.
 use Rattle.std.proofs.Common.{◌≡◌, ℕ, zero, suc, ◌-◌, true, List, Ok, Err, refl, ap, ◌∙◌, arith}
 use Rattle.bb_basis.specs.Results.{◌>>=◌, ok_or}
-use Rattle.bb_lang_token.specs.declared.fault.LangFault.TheVariants.{Token, Nesting}
-use Rattle.bb_lang_token.specs.State.{State, next, at}
+use Rattle.bb_lang_tree.specs.declared.fault.LangFault.TheVariants.{Token, Nesting}
+use Rattle.bb_lang_tree.specs.State.{State, next, at}
 use Rattle.bb_lang.specs.Expressions.{opened, inside, inner_of}
 use Rattle.bb_lang.proofs.TestLemmas.{yes}
 

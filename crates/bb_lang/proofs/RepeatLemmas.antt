@@ -2,8 +2,8 @@
 use Rattle.std.proofs.Common.{◌≡◌, ◌⊎◌, inl, inr, ℕ, suc, ◌+◌, ◌-◌, ◌<◌, ◌≤◌, false, List, [], ◌∷◌, ◌++◌, Option, Some, None, Result, Ok, Err, refl, sym, ap, ◌∙◌, arith, append_assoc}
 use Rattle.std.proofs.lemmas.List.{append-nil}
 use Rattle.bb_basis.specs.Results.{◌>>=◌}
-use Rattle.bb_lang_token.specs.declared.fault.LangFault.{LangFault}
-use Rattle.bb_lang_token.specs.State.{State, Reader, at, left}
+use Rattle.bb_lang_tree.specs.declared.fault.LangFault.{LangFault}
+use Rattle.bb_lang_tree.specs.State.{State, Reader, at, left}
 use Rattle.bb_lang.specs.Repeats.{more_after, repeated, as_many, next_item, items}
 use Rattle.bb_lang.specs.proving.Fronts.{with_front}
 use Rattle.bb_lang.proofs.TestLemmas.{no}

@@ -17,26 +17,26 @@ use Rattle.bb_lang_tree.specs.declared.atom.Relation.{Relation}
 use Rattle.bb_lang_tree.specs.declared.atom.Relation.TheVariants as relations
 use Rattle.bb_lang.specs.declared.level.Level.{Level}
 use Rattle.bb_lang.specs.declared.level.Level.TheVariants as levels
-use Rattle.bb_lang_token.specs.declared.fault.LangFault.{LangFault}
-use Rattle.bb_lang_token.specs.declared.fault.LangFault.TheVariants.{Token, Nesting}
+use Rattle.bb_lang_tree.specs.declared.fault.LangFault.{LangFault}
+use Rattle.bb_lang_tree.specs.declared.fault.LangFault.TheVariants.{Token, Nesting}
 use Rattle.bb_lang_tree.specs.declared.tree.Step.{Step}
 use Rattle.bb_lang_tree.specs.declared.tree.Step.TheVariants.{Apply, Divide}
 use Rattle.bb_lang_tree.specs.declared.tree.Sequence.{Sequence}
 use Rattle.bb_lang_tree.specs.declared.tree.Sequence.TheVariants.{Find, Links}
-use Rattle.bb_lang_token.specs.State.{State, Reader, next, at, skip}
-use Rattle.bb_lang_token.specs.Tokens.{is_int, is_text}
-use Rattle.bb_lang_token.specs.Words.{name_at, name, member}
-use Rattle.bb_lang_token.specs.Literals.{int, divisor, text}
+use Rattle.bb_lang_tree.specs.State.{State, Reader, next, at, skip}
+use Rattle.bb_lang_tree.specs.Tokens.{is_int, is_text}
+use Rattle.bb_lang_tree.specs.Words.{name_at, name, member}
+use Rattle.bb_lang_tree.specs.Literals.{int, divisor, text}
 use Rattle.bb_lang_tree.specs.Trees.{ExprTree, PatternTree, atom, unary, binary, chain, size_of, all, and_of, or_of, not_of, test}
 use Rattle.bb_lang_tree.specs.View.{steps_of, sequence_of, patterns_of}
 use Rattle.bb_lang.specs.Repeats.{as_many, items}
 
--- how what stands in one more bracket is read
+-- the readers of the contents of one more bracket
 pub record Inner : Type 0 where
   pub expr : Reader ExprTree
   pub pattern : Reader PatternTree
 
--- an opening bracket, and how what stands in it is read: not at all where as many are open as may be
+-- an opening bracket, which gives the readers of its contents; a fault if no more brackets may be opened
 unfoldable pub opened : (bracket : List ℕ) → Option Inner → Reader Inner
 opened bracket inside s = do
   inner ← if at bracket s then ok_or inside (Nesting s.place) else Err (Token s.place)
@@ -60,7 +60,7 @@ variable s = do
   t ← next s
   Ok (v, t)
 
--- NAME ":" NAME, or a name alone; `it` and `ev` are no label sets
+-- NAME ":" NAME, or a name alone; `it` and `ev` are not label sets
 unfoldable pub label_or_variable : Variable → Reader Atom
 label_or_variable (Named set) s =
     if at (codes ":") s
@@ -83,7 +83,7 @@ named s = do
         Ok (atoms.Slot v slot, w))
       else label_or_variable v t
 
--- int | TEXT | "true" | "false" | what begins with a name
+-- int | TEXT | "true" | "false" | an atom that begins with a name
 unfoldable pub atom_of : Reader Atom
 atom_of s =
     if is_int s.kind || at (codes "-") s then (do
@@ -102,7 +102,7 @@ atom_of s =
 
 -- ---- operators
 
--- "not", "low" and "high" go before one operand, "min" and "max" before two
+-- "not", "low" and "high" take one operand, "min" and "max" two
 unfoldable pub unary_at : State → Option Unary
 unary_at s =
     if at (codes "not") s then Some unaries.Not
@@ -134,7 +134,7 @@ operator_at levels.Sum s =
     else None
 operator_at levels.Term s = if at (codes "*") s then Some operators.Times else None
 
--- "/" and "%" stand among terms alone
+-- "/" and "%" are operators of terms only
 unfoldable pub division_at : Level → State → Option Division
 division_at levels.Or s = None
 division_at levels.And s = None
@@ -146,7 +146,7 @@ division_at levels.Term s =
 
 -- ---- chains
 
--- a division by INT; an operator with its operand; or no more
+-- a division by INT; an operator with its operand; or no step
 unfoldable pub step_by : Option Division → Option Operator → Reader ExprTree → Reader (Option Step)
 step_by (Some division) operator operand s = do
   t ← next s
@@ -158,11 +158,11 @@ step_by None (Some operator) operand s = do
   Ok (Some (Apply operator e), u)
 step_by None None operand s = Ok (None, s)
 
--- one more step of a chain
+-- the next step of a chain, if one follows
 unfoldable pub step : Level → Reader ExprTree → Reader (Option Step)
 step level operand s = step_by (division_at level s) (operator_at level s) operand s
 
--- an operand without steps stands for itself
+-- a chain of an operand and steps; without steps, the operand alone
 abbrev pub chained : ExprTree → List Step → ExprTree
 chained first [] = first
 chained first (one ∷ steps) = chain first (steps_of (one ∷ steps))
@@ -347,12 +347,12 @@ pattern_in inside s =
 
 -- ---- brackets
 
--- what stands in one more bracket, where `nesting` brackets may still be opened
+-- the readers of the contents of another bracket, if `nesting` more brackets may be opened
 unfoldable pub inside : (nesting : ℕ) → Option Inner
 inside zero = None
 inside (suc nesting) = Some (record { expr = expr_in (inside nesting); pattern = pattern_in (inside nesting) })
 
--- an expression, a pattern and a sequence where `nesting` brackets may still be opened
+-- an expression, a pattern, and the contents of a bracket, if `nesting` more brackets may be opened
 abbrev pub expr : (nesting : ℕ) → Reader ExprTree
 expr nesting = expr_in (inside nesting)
 

@@ -1,4 +1,4 @@
--- as many as come
+-- repeated reading
 pub mod Repeats
 -- expressions, sequences and patterns
 pub mod Expressions
@@ -6,9 +6,9 @@ pub mod Expressions
 pub mod Statements
 -- sources, and the sources of a text
 pub mod Sources
--- what only models and proofs speak of
+-- definitions used only in models and proofs
 pub mod proving
--- what sources are made of
+-- what sources are built of, from bb_lang_tree
 pub use Rattle.bb_lang_tree.specs.Trees
 pub use Rattle.bb_lang_tree.specs.View
 pub use Rattle.bb_lang_tree.specs.Blocks

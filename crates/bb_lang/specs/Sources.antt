@@ -3,8 +3,8 @@ use Rattle.std.specs.Prelude.{ℕ, ℤ, nat_le, List, [], ◌∷◌, ◌++◌, l
 use Rattle.std.specs.List.{list_any}
 use Rattle.std.specs.Str.{bytes_eq}
 use Rattle.bb_basis.specs.Results.{◌>>=◌}
-use Rattle.bb_lang_token.specs.declared.fault.LangFault.{LangFault}
-use Rattle.bb_lang_token.specs.declared.fault.LangFault.TheVariants.{Token, Twice, Limit}
+use Rattle.bb_lang_tree.specs.declared.fault.LangFault.{LangFault}
+use Rattle.bb_lang_tree.specs.declared.fault.LangFault.TheVariants.{Token, Twice, Limit}
 use Rattle.bb_lang_tree.specs.declared.source_text.ActText.{ActText}
 use Rattle.bb_lang_tree.specs.declared.source_text.ActText.TheVariants.{Do, Native}
 use Rattle.bb_lang_tree.specs.declared.source_text.ChangeText.{ChangeText}
@@ -17,10 +17,10 @@ use Rattle.bb_lang_tree.specs.declared.source_text.PartTexts.{PartTexts}
 use Rattle.bb_lang_tree.specs.declared.source_text.ReactionText.{ReactionText}
 use Rattle.bb_lang_tree.specs.declared.source_text.SourceText.{SourceText}
 use Rattle.bb_lang.specs.declared.sources.TheConstants.{BLOCK_NESTING, SOURCE_LIMIT}
-use Rattle.bb_lang_token.specs.State.{State, Reader, before, next, at, skip}
-use Rattle.bb_lang_token.specs.Tokens.{is_end}
-use Rattle.bb_lang_token.specs.Words.{name_at, name, member}
-use Rattle.bb_lang_token.specs.Literals.{int}
+use Rattle.bb_lang_tree.specs.State.{State, Reader, before, next, at, skip}
+use Rattle.bb_lang_tree.specs.Tokens.{is_end}
+use Rattle.bb_lang_tree.specs.Words.{name_at, name, member}
+use Rattle.bb_lang_tree.specs.Literals.{int}
 use Rattle.bb_lang.specs.declared.clauses.ClassSlot.{ClassSlot}
 use Rattle.bb_lang.specs.declared.clauses.ClassSpace.{ClassSpace}
 use Rattle.bb_lang.specs.Repeats.{as_many}
@@ -28,7 +28,7 @@ use Rattle.bb_lang.specs.Statements.{block}
 
 -- ---- clauses
 
--- ( "create" | "delete" ) NAME, after the word
+-- ( "create" | "delete" ) NAME, from the word on
 unfoldable pub unit_event : ChangeText → Reader ClauseText
 unit_event kind s = do
   t ← next s
@@ -90,7 +90,7 @@ clause s = do
   v ← skip (codes ";") u
   Ok (e, v)
 
--- one more clause, if one comes
+-- another clause, if one follows
 unfoldable pub next_clause : Reader (Option ClauseText)
 next_clause s =
     if at (codes "when") s
@@ -166,14 +166,14 @@ act s =
 
 -- ---- sources
 
--- "source", of which there are at most `SOURCE_LIMIT`
+-- "source", which may occur at most `SOURCE_LIMIT` times
 unfoldable pub source_word : State → Result State LangFault
 source_word s =
     if at (codes "source") s
     then (if nat_le SOURCE_LIMIT (length s.sources) then Err (Limit s.place) else next s)
     else Err (Token s.place)
 
--- NAME, which no source before has
+-- NAME, which no earlier source has
 unfoldable pub source_name : Reader (List ℕ)
 source_name s = do
   word ← name_at s
@@ -210,7 +210,7 @@ source s = do
   z ← skip (codes "}") y
   Ok (record { header = h; clauses = cs; rate = n; parts = ps; act = a }, z)
 
--- one more source, up to the end of the text
+-- another source, unless the text ends here
 unfoldable pub next_source : Reader (Option SourceText)
 next_source s =
     if is_end s.kind then Ok (None, s)

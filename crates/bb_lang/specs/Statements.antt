@@ -9,9 +9,9 @@ use Rattle.bb_lang_tree.specs.declared.block.Binding.TheVariants.{As, Linked}
 use Rattle.bb_lang_tree.specs.declared.block.Placed.{Placed}
 use Rattle.bb_lang_tree.specs.declared.block.Statement.{Statement}
 use Rattle.bb_lang_tree.specs.declared.block.Statement.TheVariants as statements
-use Rattle.bb_lang_token.specs.declared.fault.LangFault.TheVariants.{Token, Nesting}
-use Rattle.bb_lang_token.specs.State.{State, Reader, next, at, skip}
-use Rattle.bb_lang_token.specs.Words.{name, member, declared}
+use Rattle.bb_lang_tree.specs.declared.fault.LangFault.TheVariants.{Token, Nesting}
+use Rattle.bb_lang_tree.specs.State.{State, Reader, next, at, skip}
+use Rattle.bb_lang_tree.specs.Words.{name, member, declared}
 use Rattle.bb_lang_tree.specs.Blocks.{BlockTree}
 use Rattle.bb_lang_tree.specs.BlockView.{block_of}
 use Rattle.bb_lang.specs.declared.actions.UnitSlot.{UnitSlot}
@@ -135,7 +135,7 @@ answer_of nesting s = do
   (e, u) ← expr nesting t
   Ok (actions.Answer e, u)
 
--- what changes a unit, or a name
+-- a statement that changes a unit or a name
 unfoldable pub change_of : (nesting : ℕ) → Reader Action
 change_of nesting s =
     if at (codes "set") s then set_of nesting s
@@ -163,9 +163,9 @@ plain nesting s = do
   u ← skip (codes ";") t
   Ok (statements.Action a, u)
 
--- ---- statements with blocks: `block` reads one
+-- ---- statements with blocks, which `block` reads
 
--- the names that were in scope before: those that were declared since then go
+-- the state after, with the names that were in scope before: names declared since then are removed
 abbrev pub leave_scope : (before after : State) → State
 leave_scope s t = record t { scope = take (length s.scope) t.scope }
 
@@ -209,7 +209,7 @@ binding s = do
   (unit, v) ← variable u
   bound x unit v
 
--- "with" NAME "=" var ( "as" NAME | "." NAME ) block [ "else" block ]: the name is in scope in the first block alone
+-- "with" NAME "=" var ( "as" NAME | "." NAME ) block [ "else" block ]: the name is in scope in the first block only
 unfoldable pub with_in : Reader BlockTree → Reader Statement
 with_in block s = do
   t ← next s
@@ -236,7 +236,7 @@ statement_in nesting block s =
     else if at (codes "for") s then for_in nesting block s
     else plain nesting s
 
--- one more statement, with its place, up to "}"
+-- another statement, with its place, unless "}" follows
 unfoldable pub next_statement : (nesting : ℕ) → Reader BlockTree → Reader (Option Placed)
 next_statement nesting block s =
     if at (codes "}") s then Ok (None, s)
@@ -246,7 +246,7 @@ next_statement nesting block s =
 
 -- ---- blocks
 
--- block = "{" { stmt } "}", where `nesting` brackets may still be opened
+-- block = "{" { stmt } "}", if `nesting` more brackets may be opened
 unfoldable pub block : (nesting : ℕ) → Reader BlockTree
 block zero s = if at (codes "{") s then Err (Nesting s.place) else Err (Token s.place)
 block (suc nesting) s = do

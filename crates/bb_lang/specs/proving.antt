@@ -1,9 +1,9 @@
--- What only models and proofs speak of.
--- what a loop that reads as many as come has read
+-- Definitions used only in models and proofs.
+-- what a loop of a repeated reader has read so far
 pub mod Fronts
 -- which readers call which
 pub mod Ranks
--- how trees are stored
+-- injective encodings of trees, from bb_lang_tree
 pub use Rattle.bb_lang_tree.specs.proving.Rose
 pub use Rattle.bb_lang_tree.specs.proving.Codes
 pub use Rattle.bb_lang_tree.specs.proving.BlockCodes

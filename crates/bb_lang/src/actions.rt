@@ -1,8 +1,8 @@
-//! Statements without blocks, as they are read: a function for each. The reader of statements calls `read_action`.
+//! Readers of statements without blocks: a function for each. The reader of statements calls `read_action`.
 
 ghost use Rattle.std.specs.Prelude.{◌≡◌, ◌<◌, codes, OnOk};
 ghost use Rattle.bb_basis.specs.Results.{Gives};
-ghost use Rattle.bb_lang_token.specs.declared.fault.LangFault.TheVariants.{Memory as OutOfMemory};
+ghost use Rattle.bb_lang_tree.specs.declared.fault.LangFault.TheVariants.{Memory as OutOfMemory};
 ghost use Rattle.bb_lang.specs.Expressions.{expr};
 ghost use Rattle.bb_lang.specs.Repeats.{next_item, items};
 ghost use Rattle.bb_lang.specs.Statements.{slot_of, space_of, let_of, assign_of, new_of, set_of, link_of, unlink_of};
@@ -11,8 +11,7 @@ ghost use Rattle.bb_lang.specs.Statements.{enter_of, leave_of, delete_of, say_of
 use crate::atoms::read_variable;
 use crate::expressions::read_expr;
 use bb_basis::{Items, Text};
-use bb_lang_token::{LangFault, Parser};
-use bb_lang_tree::{Action, Expr, Variable};
+use bb_lang_tree::{Action, Expr, LangFault, Parser, Variable};
 
 // A unit and one of its slots.
 #[derive(Drop)]
@@ -28,7 +27,7 @@ struct UnitSpace {
     space: Text,
 }
 
-// `unit.slot`
+// Reads `unit.slot`.
 #[tactic(auto, unfolding(crate::specs::Statements::slot_of))]
 fn read_slot(parser: &mut Parser<'_>) -> Result<UnitSlot, LangFault>
     ensures read { Gives OutOfMemory (λ u. (u, parser.new.state)) result (slot_of parser.old.state) }
@@ -40,7 +39,7 @@ fn read_slot(parser: &mut Parser<'_>) -> Result<UnitSlot, LangFault>
     Ok(UnitSlot { unit, slot })
 }
 
-// `unit space`
+// Reads `unit space`.
 #[tactic(auto, unfolding(crate::specs::Statements::space_of))]
 fn read_space(parser: &mut Parser<'_>) -> Result<UnitSpace, LangFault>
     ensures read { Gives OutOfMemory (λ u. (u, parser.new.state)) result (space_of parser.old.state) }
@@ -51,7 +50,7 @@ fn read_space(parser: &mut Parser<'_>) -> Result<UnitSpace, LangFault>
     Ok(UnitSpace { unit, space })
 }
 
-// `let`
+// Reads a `let`.
 #[tactic(auto, unfolding(crate::specs::Statements::let_of))]
 fn read_let(parser: &mut Parser<'_>) -> Result<Action, LangFault>
     ensures read { Gives OutOfMemory (λ a. (a, parser.new.state)) result (let_of parser.old.nesting parser.old.state) }
@@ -64,7 +63,7 @@ fn read_let(parser: &mut Parser<'_>) -> Result<Action, LangFault>
     Ok(Action::Let { name, value })
 }
 
-// An assignment.
+// Reads an assignment.
 #[tactic(auto, unfolding(crate::specs::Statements::assign_of))]
 fn read_assign(parser: &mut Parser<'_>) -> Result<Action, LangFault>
     ensures read { Gives OutOfMemory (λ a. (a, parser.new.state)) result
@@ -77,7 +76,7 @@ fn read_assign(parser: &mut Parser<'_>) -> Result<Action, LangFault>
     Ok(Action::Assign { name, value })
 }
 
-// `new`
+// Reads a `new`.
 #[tactic(auto, unfolding(crate::specs::Statements::new_of))]
 fn read_new(parser: &mut Parser<'_>) -> Result<Action, LangFault>
     ensures read { Gives OutOfMemory (λ a. (a, parser.new.state)) result (new_of parser.old.state) }
@@ -90,7 +89,7 @@ fn read_new(parser: &mut Parser<'_>) -> Result<Action, LangFault>
     Ok(Action::New { name, class })
 }
 
-// `set`
+// Reads a `set`.
 #[tactic(auto, unfolding(crate::specs::Statements::set_of))]
 fn read_set(parser: &mut Parser<'_>) -> Result<Action, LangFault>
     ensures read { Gives OutOfMemory (λ a. (a, parser.new.state)) result (set_of parser.old.nesting parser.old.state) }
@@ -103,7 +102,7 @@ fn read_set(parser: &mut Parser<'_>) -> Result<Action, LangFault>
     Ok(Action::Set { unit, slot, value })
 }
 
-// `link`
+// Reads a `link`.
 #[tactic(auto, unfolding(crate::specs::Statements::link_of))]
 fn read_link(parser: &mut Parser<'_>) -> Result<Action, LangFault>
     ensures read { Gives OutOfMemory (λ a. (a, parser.new.state)) result (link_of parser.old.state) }
@@ -115,7 +114,7 @@ fn read_link(parser: &mut Parser<'_>) -> Result<Action, LangFault>
     Ok(Action::Link { unit, slot, other })
 }
 
-// `unlink`
+// Reads an `unlink`.
 #[tactic(auto, unfolding(crate::specs::Statements::unlink_of))]
 fn read_unlink(parser: &mut Parser<'_>) -> Result<Action, LangFault>
     ensures read { Gives OutOfMemory (λ a. (a, parser.new.state)) result (unlink_of parser.old.state) }
@@ -127,7 +126,7 @@ fn read_unlink(parser: &mut Parser<'_>) -> Result<Action, LangFault>
     Ok(Action::Unlink { unit, slot, other })
 }
 
-// One more expression after a comma, if one comes.
+// Reads another expression after a comma, if one follows.
 #[tactic(auto, unfolding(crate::specs::Repeats::next_item))]
 fn read_next_expr(parser: &mut Parser<'_>) -> Result<Option<Expr>, LangFault>
     ensures read { Gives OutOfMemory (λ o. (o, parser.new.state)) result
@@ -141,7 +140,7 @@ fn read_next_expr(parser: &mut Parser<'_>) -> Result<Option<Expr>, LangFault>
     Ok(Some(read_expr(parser)?))
 }
 
-// Expressions with commas between them, up to `;`.
+// Reads expressions, separated by commas, up to `;`.
 #[tactic(auto, unfolding(crate::specs::Repeats::items))]
 fn read_exprs(parser: &mut Parser<'_>) -> Result<Vec<Expr>, LangFault>
     ensures read { Gives OutOfMemory (λ v. (v.items, parser.new.state)) result
@@ -162,7 +161,7 @@ fn read_exprs(parser: &mut Parser<'_>) -> Result<Vec<Expr>, LangFault>
     Ok(exprs)
 }
 
-// What changes a unit, or a name.
+// Reads a statement that changes a unit or a name.
 #[tactic(auto, unfolding(crate::specs::Statements::change_of, crate::specs::Statements::enter_of, crate::specs::Statements::leave_of, crate::specs::Statements::delete_of))]
 fn read_change(parser: &mut Parser<'_>) -> Result<Action, LangFault>
     ensures read { Gives OutOfMemory (λ a. (a, parser.new.state)) result
@@ -196,7 +195,7 @@ fn read_change(parser: &mut Parser<'_>) -> Result<Action, LangFault>
     read_assign(parser)
 }
 
-/// A statement without blocks, up to its `;`.
+/// Reads a statement without blocks, up to its `;`.
 #[tactic(auto, unfolding(crate::specs::Statements::action_of, crate::specs::Statements::say_of, crate::specs::Statements::rate_of, crate::specs::Statements::decline_of, crate::specs::Statements::answer_of))]
 pub(crate) fn read_action(parser: &mut Parser<'_>) -> Result<Action, LangFault>
     ensures read { Gives OutOfMemory (λ a. (a, parser.new.state)) result

@@ -1,14 +1,13 @@
-//! Expressions without parts, as they are read. The reader of expressions calls it where no bracket opens.
+//! Readers of atoms: expressions without parts. The reader of expressions calls `read_atom` where no bracket opens.
 
 ghost use Rattle.std.specs.Prelude.{◌≡◌, OnOk};
 ghost use Rattle.bb_basis.specs.Results.{Gives};
-ghost use Rattle.bb_lang_token.specs.declared.fault.LangFault.TheVariants.{Memory as OutOfMemory};
+ghost use Rattle.bb_lang_tree.specs.declared.fault.LangFault.TheVariants.{Memory as OutOfMemory};
 ghost use Rattle.bb_lang.specs.Expressions.{variable_at, variable, label_or_variable, named, atom_of};
 
-use bb_lang_token::{LangFault, Parser};
-use bb_lang_tree::{Atom, Variable};
+use bb_lang_tree::{Atom, LangFault, Parser, Variable};
 
-// `it`, `ev`, or the name that the token is.
+// Returns the token as a variable: `it`, `ev` or a name.
 #[tactic(auto, unfolding(crate::specs::Expressions::variable_at))]
 fn variable_at(parser: &Parser<'_>) -> Result<Variable, LangFault>
     ensures { Gives OutOfMemory (λ v. v) result (variable_at parser.now.state) }
@@ -22,7 +21,7 @@ fn variable_at(parser: &Parser<'_>) -> Result<Variable, LangFault>
     Ok(Variable::Named(parser.name_at()?))
 }
 
-/// A unit or a value by its name.
+/// Reads a variable: the name of a unit or another value.
 #[tactic(auto, unfolding(crate::specs::Expressions::variable))]
 pub(crate) fn read_variable(parser: &mut Parser<'_>) -> Result<Variable, LangFault>
     ensures read { Gives OutOfMemory (λ v. (v, parser.new.state)) result (variable parser.old.state) }
@@ -33,7 +32,7 @@ pub(crate) fn read_variable(parser: &mut Parser<'_>) -> Result<Variable, LangFau
     Ok(variable)
 }
 
-// After a variable: the label of a set, or the variable alone.
+// Reads the rest after a variable: the label of a set, or nothing.
 #[tactic(auto, unfolding(crate::specs::Expressions::label_or_variable))]
 fn read_label(parser: &mut Parser<'_>, variable: Variable) -> Result<Atom, LangFault>
     ensures read { Gives OutOfMemory (λ a. (a, parser.new.state)) result (label_or_variable variable parser.old.state) }
@@ -51,7 +50,7 @@ fn read_label(parser: &mut Parser<'_>, variable: Variable) -> Result<Atom, LangF
     Ok(Atom::Label { set, label })
 }
 
-// What begins with a name.
+// Reads an atom that begins with a name.
 #[tactic(auto, unfolding(crate::specs::Expressions::named))]
 fn read_named(parser: &mut Parser<'_>) -> Result<Atom, LangFault>
     ensures read { Gives OutOfMemory (λ a. (a, parser.new.state)) result (named parser.old.state) }
@@ -66,7 +65,7 @@ fn read_named(parser: &mut Parser<'_>) -> Result<Atom, LangFault>
     Ok(Atom::Slot { unit, slot })
 }
 
-/// An expression without parts.
+/// Reads an expression without parts.
 #[tactic(auto, unfolding(crate::specs::Expressions::atom_of))]
 pub(crate) fn read_atom(parser: &mut Parser<'_>) -> Result<Atom, LangFault>
     ensures read { Gives OutOfMemory (λ a. (a, parser.new.state)) result (atom_of parser.old.state) }

@@ -1,14 +1,13 @@
-//! Clauses, as they are read. The reader of sources calls `read_clauses`.
+//! Readers of clauses. The reader of sources calls `read_clauses`.
 
 ghost use Rattle.std.specs.Prelude.{◌≡◌};
 ghost use Rattle.bb_basis.specs.Results.{Gives};
-ghost use Rattle.bb_lang_token.specs.declared.fault.LangFault.TheVariants.{Memory as OutOfMemory};
+ghost use Rattle.bb_lang_tree.specs.declared.fault.LangFault.TheVariants.{Memory as OutOfMemory};
 ghost use Rattle.bb_lang.specs.Sources.{unit_event, slot_event, space_event, change_event, event, clause, next_clause};
 ghost use Rattle.bb_lang.specs.Sources.{clauses};
 
 use bb_basis::Text;
-use bb_lang_token::{LangFault, Parser};
-use bb_lang_tree::{ChangeText, ClauseText};
+use bb_lang_tree::{ChangeText, ClauseText, LangFault, Parser};
 
 // A class and a slot of its units.
 #[derive(Drop)]
@@ -24,7 +23,7 @@ struct ClassSpace {
     space: Text,
 }
 
-// A change of units, at its word.
+// Reads a change of units, from its keyword on.
 #[tactic(auto, unfolding(crate::specs::Sources::unit_event))]
 fn read_unit_event(parser: &mut Parser<'_>, kind: ChangeText) -> Result<ClauseText, LangFault>
     ensures { Gives OutOfMemory (λ c. (c, parser.new.state)) result (unit_event kind parser.old.state) }
@@ -34,7 +33,7 @@ fn read_unit_event(parser: &mut Parser<'_>, kind: ChangeText) -> Result<ClauseTe
     Ok(ClauseText::Change { kind, class })
 }
 
-// `class.slot`, after a word.
+// Reads `class.slot` after a keyword.
 #[tactic(auto, unfolding(crate::specs::Sources::slot_event))]
 fn read_slot_event(parser: &mut Parser<'_>) -> Result<ClassSlot, LangFault>
     ensures { Gives OutOfMemory (λ c. (c, parser.new.state)) result (slot_event parser.old.state) }
@@ -46,7 +45,7 @@ fn read_slot_event(parser: &mut Parser<'_>) -> Result<ClassSlot, LangFault>
     Ok(ClassSlot { class, slot })
 }
 
-// `class space`, after a word.
+// Reads `class space` after a keyword.
 #[tactic(auto, unfolding(crate::specs::Sources::space_event))]
 fn read_space_event(parser: &mut Parser<'_>) -> Result<ClassSpace, LangFault>
     ensures { Gives OutOfMemory (λ c. (c, parser.new.state)) result (space_event parser.old.state) }
@@ -57,7 +56,7 @@ fn read_space_event(parser: &mut Parser<'_>) -> Result<ClassSpace, LangFault>
     Ok(ClassSpace { class, space })
 }
 
-// A change of slots, links or spaces, at its word.
+// Reads a change of slots, links or spaces, from its keyword on.
 #[tactic(auto, unfolding(crate::specs::Sources::change_event))]
 fn read_change_event(parser: &mut Parser<'_>) -> Result<ClauseText, LangFault>
     ensures { Gives OutOfMemory (λ c. (c, parser.new.state)) result (change_event parser.old.state) }
@@ -92,7 +91,7 @@ fn read_change_event(parser: &mut Parser<'_>) -> Result<ClauseText, LangFault>
     })
 }
 
-// An event.
+// Reads an event.
 #[tactic(auto, unfolding(crate::specs::Sources::event))]
 fn read_event(parser: &mut Parser<'_>) -> Result<ClauseText, LangFault>
     ensures { Gives OutOfMemory (λ c. (c, parser.new.state)) result (event parser.old.state) }
@@ -110,7 +109,7 @@ fn read_event(parser: &mut Parser<'_>) -> Result<ClauseText, LangFault>
     read_change_event(parser)
 }
 
-// A clause.
+// Reads a clause.
 #[tactic(auto, unfolding(crate::specs::Sources::clause))]
 fn read_clause(parser: &mut Parser<'_>) -> Result<ClauseText, LangFault>
     ensures { Gives OutOfMemory (λ c. (c, parser.new.state)) result (clause parser.old.state) }
@@ -121,7 +120,7 @@ fn read_clause(parser: &mut Parser<'_>) -> Result<ClauseText, LangFault>
     Ok(event)
 }
 
-// One more clause, if one comes.
+// Reads another clause, if one follows.
 #[tactic(auto, unfolding(crate::specs::Sources::next_clause))]
 fn read_next_clause(parser: &mut Parser<'_>) -> Result<Option<ClauseText>, LangFault>
     ensures { Gives OutOfMemory (λ o. (o, parser.new.state)) result (next_clause parser.old.state) }
@@ -132,7 +131,7 @@ fn read_next_clause(parser: &mut Parser<'_>) -> Result<Option<ClauseText>, LangF
     Ok(Some(read_clause(parser)?))
 }
 
-/// One clause and as many more as come.
+/// Reads one clause and all clauses that follow.
 #[tactic(auto, unfolding(crate::specs::Sources::clauses))]
 pub(crate) fn read_clauses(parser: &mut Parser<'_>) -> Result<Vec<ClauseText>, LangFault>
     ensures { Gives OutOfMemory (λ v. (v.items, parser.new.state)) result (clauses parser.old.state) }

@@ -1,11 +1,11 @@
-//! Expressions, sequences and patterns, as they are read: a function for each production. The reader of statements
-//! calls `read_expr` and `read_sequence`.
+//! Readers of expressions, sequences and patterns: a function for each production. The reader of statements calls
+//! `read_expr` and `read_sequence`.
 
 ghost use Rattle.std.specs.Prelude.{◌≡◌, ◌+◌, IfOk, OnOk, codes};
 ghost use Rattle.bb_basis.specs.Results.{Gives};
-ghost use Rattle.bb_lang_token.specs.declared.fault.LangFault.TheVariants.{Memory as OutOfMemory};
+ghost use Rattle.bb_lang_tree.specs.declared.fault.LangFault.TheVariants.{Memory as OutOfMemory};
 ghost use Rattle.bb_lang_tree.specs.Trees.{binary as tree_binary};
-ghost use Rattle.bb_lang_token.specs.State.{skip};
+ghost use Rattle.bb_lang_tree.specs.State.{skip};
 ghost use Rattle.bb_lang.specs.Repeats.{as_many, items, next_item};
 ghost use Rattle.bb_lang.specs.Expressions.{opened, inside, inner_of, chained, step, operand_of, chain_at, comparison};
 ghost use Rattle.bb_lang.specs.Expressions.{factor, grouped, pair_of, linked_to, sequence, expr, pattern};
@@ -14,11 +14,12 @@ use crate::atoms::{read_atom, read_variable};
 use crate::level::{
     Level, binary_at, comparison_at, division_at, operator_at, relation_at, unary_at,
 };
-use bb_lang_token::{LangFault, Parser};
-use bb_lang_tree::{Binary, Expr, ExprNode, Pattern, PatternNode, Sequence, Step};
+use bb_lang_tree::{
+    Binary, Expr, ExprNode, LangFault, Parser, Pattern, PatternNode, Sequence, Step,
+};
 use std::alloc::{AllocError, Global};
 
-// An operand with the steps after it, or the operand alone where there are none.
+// Makes a chain of an operand and the steps after it; without steps, returns the operand alone.
 fn chained(alloc: Global, first: Expr, steps: Vec<Step>) -> Result<Expr, AllocError>
     ensures { IfOk result (λ e. e ≡ chained first steps.items) }
 {
@@ -29,7 +30,7 @@ fn chained(alloc: Global, first: Expr, steps: Vec<Step>) -> Result<Expr, AllocEr
     Ok(Expr::new(ExprNode::Chain { first, steps }))
 }
 
-// An operation on two operands.
+// Makes an operation on two operands.
 fn binary(alloc: Global, operation: Binary, left: Expr, right: Expr) -> Result<Expr, AllocError>
     ensures { IfOk result (λ e. e ≡ tree_binary operation left right) }
 {
@@ -42,7 +43,8 @@ fn binary(alloc: Global, operation: Binary, left: Expr, right: Expr) -> Result<E
     }))
 }
 
-/// An opening bracket, in which one less may be opened. Returns how many may be opened behind the closing one.
+/// Reads an opening bracket, inside which one bracket less may be opened. Returns how many may be opened after the
+/// closing one. `Token`: the token is another one. `Nesting`: no more brackets may be opened.
 #[tactic(auto, unfolding(crate::specs::Expressions::opened))]
 pub(crate) fn open(parser: &mut Parser<'_>, bracket: &str) -> Result<usize, LangFault>
     ensures inner { Gives OutOfMemory (λ _. (inner_of parser.new.nesting, parser.new.state)) result
@@ -63,7 +65,7 @@ pub(crate) fn open(parser: &mut Parser<'_>, bracket: &str) -> Result<usize, Lang
     Ok(nesting)
 }
 
-/// A closing bracket, behind which `outer` brackets may be opened.
+/// Reads a closing bracket, after which `outer` brackets may be opened.
 pub(crate) fn close(parser: &mut Parser<'_>, bracket: &str, outer: usize) -> Result<(), LangFault>
     ensures read { Gives OutOfMemory (λ _. parser.new.state) result (skip bracket.now parser.old.state) }
     ensures outer { OnOk result (parser.new.nesting ≡ outer) }
@@ -73,7 +75,7 @@ pub(crate) fn close(parser: &mut Parser<'_>, bracket: &str, outer: usize) -> Res
     Ok(())
 }
 
-// The units that a unit is linked to.
+// Reads a link slot of a unit, as the sequence of its partners.
 #[tactic(auto, unfolding(crate::specs::Expressions::linked_to))]
 fn read_links(parser: &mut Parser<'_>) -> Result<Sequence, LangFault>
     ensures read { Gives OutOfMemory (λ q. (q, parser.new.state)) result (linked_to parser.old.state) }
@@ -85,7 +87,7 @@ fn read_links(parser: &mut Parser<'_>) -> Result<Sequence, LangFault>
     Ok(Sequence::Links { unit, slot })
 }
 
-// An operand of a level.
+// Reads an operand of a level.
 #[cycle(reading)]
 fn read_operand(parser: &mut Parser<'_>, level: Level) -> Result<Expr, LangFault>
     ensures read { Gives OutOfMemory (λ e. (e, parser.new.state)) result
@@ -100,7 +102,7 @@ fn read_operand(parser: &mut Parser<'_>, level: Level) -> Result<Expr, LangFault
     }
 }
 
-// One more operator of a level with its operand, if one comes.
+// Reads the next operator of a level with its operand, if one follows.
 #[cycle(reading)]
 #[tactic(auto, unfolding(crate::specs::Expressions::step, crate::specs::Expressions::step_by))]
 fn read_step(parser: &mut Parser<'_>, level: Level) -> Result<Option<Step>, LangFault>
@@ -121,7 +123,7 @@ fn read_step(parser: &mut Parser<'_>, level: Level) -> Result<Option<Step>, Lang
     Ok(Some(Step::Apply { operator, operand }))
 }
 
-// As many steps of a level as come.
+// Reads all steps of a level that follow.
 #[cycle(reading)]
 #[tactic(auto, unfolding(crate::specs::Repeats::as_many))]
 fn read_steps(parser: &mut Parser<'_>, level: Level) -> Result<Vec<Step>, LangFault>
@@ -139,7 +141,7 @@ fn read_steps(parser: &mut Parser<'_>, level: Level) -> Result<Vec<Step>, LangFa
     Ok(steps)
 }
 
-// Operands with the operators of a level between them.
+// Reads operands with the operators of a level between them.
 #[cycle(reading)]
 fn read_chain(parser: &mut Parser<'_>, level: Level) -> Result<Expr, LangFault>
     ensures read { Gives OutOfMemory (λ e. (e, parser.new.state)) result
@@ -151,7 +153,7 @@ fn read_chain(parser: &mut Parser<'_>, level: Level) -> Result<Expr, LangFault>
     Ok(chained(parser.alloc(), first, steps)?)
 }
 
-// A sum, or a comparison of two.
+// Reads a sum, or a comparison of two sums.
 #[cycle(reading)]
 #[tactic(auto, unfolding(crate::specs::Expressions::comparison, crate::specs::Expressions::compared))]
 fn read_comparison(parser: &mut Parser<'_>) -> Result<Expr, LangFault>
@@ -168,7 +170,7 @@ fn read_comparison(parser: &mut Parser<'_>) -> Result<Expr, LangFault>
     Ok(binary(parser.alloc(), operation, left, right)?)
 }
 
-// An expression in parentheses.
+// Reads an expression in parentheses.
 #[cycle(reading)]
 #[tactic(auto, unfolding(crate::specs::Expressions::grouped))]
 fn read_group(parser: &mut Parser<'_>) -> Result<Expr, LangFault>
@@ -182,7 +184,7 @@ fn read_group(parser: &mut Parser<'_>) -> Result<Expr, LangFault>
     Ok(expr)
 }
 
-// Two expressions with a comma between them, in brackets.
+// Reads an operation on two expressions in brackets, with a comma between them.
 #[cycle(reading)]
 #[tactic(auto, unfolding(crate::specs::Expressions::pair_of))]
 fn read_pair(
@@ -203,7 +205,7 @@ fn read_pair(
     Ok(binary(parser.alloc(), operation, left, right)?)
 }
 
-// An operand of `*`: what is in brackets, an operation, or an expression without parts.
+// Reads an operand of `*`: something in brackets, an operation, or an expression without parts.
 #[cycle(reading)]
 #[tactic(auto, unfolding(crate::specs::Expressions::factor, crate::specs::Expressions::interval, crate::specs::Expressions::sized, crate::specs::Expressions::applied))]
 fn read_factor(parser: &mut Parser<'_>) -> Result<Expr, LangFault>
@@ -239,7 +241,7 @@ fn read_factor(parser: &mut Parser<'_>) -> Result<Expr, LangFault>
     Ok(Expr::new(ExprNode::Atom(atom)))
 }
 
-/// What a loop goes over.
+/// Reads the sequence that a loop iterates over.
 #[cycle(reading)]
 #[tactic(auto, unfolding(crate::specs::Expressions::sequence, crate::specs::Expressions::found_in, crate::specs::Expressions::condition))]
 pub(crate) fn read_sequence(parser: &mut Parser<'_>) -> Result<Sequence, LangFault>
@@ -270,7 +272,7 @@ pub(crate) fn read_sequence(parser: &mut Parser<'_>) -> Result<Sequence, LangFau
     })
 }
 
-// One more pattern after a comma, if one comes.
+// Reads another pattern after a comma, if one follows.
 #[cycle(reading)]
 #[tactic(auto, unfolding(crate::specs::Repeats::next_item))]
 fn read_next_pattern(parser: &mut Parser<'_>) -> Result<Option<Pattern>, LangFault>
@@ -285,7 +287,7 @@ fn read_next_pattern(parser: &mut Parser<'_>) -> Result<Option<Pattern>, LangFau
     Ok(Some(read_pattern(parser)?))
 }
 
-// Patterns with commas between them, up to `)`.
+// Reads patterns, separated by commas, up to `)`.
 #[cycle(reading)]
 #[tactic(auto, unfolding(crate::specs::Repeats::items, crate::specs::Repeats::as_many))]
 fn read_patterns(parser: &mut Parser<'_>) -> Result<Vec<Pattern>, LangFault>
@@ -307,7 +309,7 @@ fn read_patterns(parser: &mut Parser<'_>) -> Result<Vec<Pattern>, LangFault>
     Ok(patterns)
 }
 
-// A pattern.
+// Reads a pattern.
 #[cycle(reading)]
 #[tactic(auto, unfolding(crate::specs::Expressions::pattern_in, crate::specs::Expressions::parts, crate::specs::Expressions::part, crate::specs::Expressions::tested))]
 fn read_pattern(parser: &mut Parser<'_>) -> Result<Pattern, LangFault>
@@ -351,7 +353,7 @@ fn read_pattern(parser: &mut Parser<'_>) -> Result<Pattern, LangFault>
     }))
 }
 
-/// An expression.
+/// Reads an expression.
 pub(crate) fn read_expr(parser: &mut Parser<'_>) -> Result<Expr, LangFault>
     ensures read { Gives OutOfMemory (λ e. (e, parser.new.state)) result (expr parser.old.nesting parser.old.state) }
     ensures nesting { OnOk result (parser.new.nesting ≡ parser.old.nesting) }

@@ -1,12 +1,11 @@
-//! The levels of operators. The reader of expressions goes by them.
+//! The levels of operators, for the reader of expressions.
 
 ghost use Rattle.std.specs.Prelude.{◌≡◌};
 ghost use Rattle.bb_lang.specs.Expressions.{operator_at, division_at, unary_at, binary_at, comparison_at, relation_at};
 
-use bb_lang_token::Parser;
-use bb_lang_tree::{Binary, Division, Operator, Relation, Unary};
+use bb_lang_tree::{Binary, Division, Operator, Parser, Relation, Unary};
 
-/// Chains of operators, from those that bind least. Comparisons stand between `And` and `Sum`.
+/// Levels of chained operators, from the weakest binding to the strongest. Comparisons are between `And` and `Sum`.
 #[derive(Clone, Copy, Debug)]
 pub(crate) enum Level {
     /// Operands of `or`.
@@ -19,7 +18,7 @@ pub(crate) enum Level {
     Term,
 }
 
-/// The operator of a level that the token is.
+/// Returns the token as an operator of a level.
 #[tactic(auto, unfolding(crate::specs::Expressions::operator_at))]
 pub(crate) fn operator_at(parser: &Parser<'_>, level: Level) -> Option<Operator>
     ensures { result ≡ operator_at level parser.now.state }
@@ -34,7 +33,7 @@ pub(crate) fn operator_at(parser: &Parser<'_>, level: Level) -> Option<Operator>
     }
 }
 
-/// The division that the token is, among terms.
+/// Returns the token as a division, at the level of terms only.
 #[tactic(auto, unfolding(crate::specs::Expressions::division_at))]
 pub(crate) fn division_at(parser: &Parser<'_>, level: Level) -> Option<Division>
     ensures { result ≡ division_at level parser.now.state }
@@ -46,7 +45,7 @@ pub(crate) fn division_at(parser: &Parser<'_>, level: Level) -> Option<Division>
     }
 }
 
-/// The operation on one operand that the token names.
+/// Returns the token as an operation on one operand.
 #[tactic(auto, unfolding(crate::specs::Expressions::unary_at))]
 pub(crate) fn unary_at(parser: &Parser<'_>) -> Option<Unary>
     ensures { result ≡ unary_at parser.now.state }
@@ -63,7 +62,7 @@ pub(crate) fn unary_at(parser: &Parser<'_>) -> Option<Unary>
     None
 }
 
-/// The operation on two operands that the token names.
+/// Returns the token as an operation on two operands.
 #[tactic(auto, unfolding(crate::specs::Expressions::binary_at))]
 pub(crate) fn binary_at(parser: &Parser<'_>) -> Option<Binary>
     ensures { result ≡ binary_at parser.now.state }
@@ -77,7 +76,7 @@ pub(crate) fn binary_at(parser: &Parser<'_>) -> Option<Binary>
     None
 }
 
-/// The comparison that the token is.
+/// Returns the token as a comparison.
 #[tactic(auto, unfolding(crate::specs::Expressions::comparison_at))]
 pub(crate) fn comparison_at(parser: &Parser<'_>) -> Option<Binary>
     ensures { result ≡ comparison_at parser.now.state }
@@ -94,7 +93,7 @@ pub(crate) fn comparison_at(parser: &Parser<'_>) -> Option<Binary>
     None
 }
 
-/// The relation of a test that the token names.
+/// Returns the token as the relation of a test.
 #[tactic(auto, unfolding(crate::specs::Expressions::relation_at))]
 pub(crate) fn relation_at(parser: &Parser<'_>) -> Option<Relation>
     ensures { result ≡ relation_at parser.now.state }

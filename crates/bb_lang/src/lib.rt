@@ -1,9 +1,10 @@
-//! The source language: from a text to the trees of its sources.
+//! The source language: parses a text into the trees of its sources.
 //!
 //! - In: the text of sources.
-//! - Out: `parse`, a tree for each source, or the first `LangFault` with its line and column.
-//! - Callers rely on: trees are no deeper than `NESTING_LIMIT`, and there are at most `SOURCE_LIMIT`.
-//! - Family: bb_lang_token has the tokens, bb_lang_tree the trees.
+//! - Out: `parse`, one tree for each source, or the first `LangFault` with its line and column.
+//! - Callers rely on: no more than `NESTING_LIMIT` brackets are open at any place, which limits the depth of trees, and
+//!   there are at most `SOURCE_LIMIT` sources.
+//! - Family: bb_lang_tree has the tokens and the types of the trees.
 //! - Cases: `limits_of_texts`, `refused_sources`, `model-bent_texts`; tests in bb_rules_tests.
 #![tactic(auto)]
 
@@ -15,10 +16,10 @@ mod level;
 mod sources;
 mod statements;
 
-pub use bb_lang_token::{LangFault, Place, TEXT_LIMIT};
 pub use bb_lang_tree::{
     ActText, Action, Atom, Binary, Binding, Block, Branches, ChangeText, ClauseText, Division,
-    Expr, ExprNode, ForLoop, HeaderText, Operator, PartText, PartTexts, Pattern, PatternNode,
-    Placed, ReactionText, Relation, Sequence, SourceText, Statement, Step, Unary, Variable,
+    Expr, ExprNode, ForLoop, HeaderText, LangFault, Operator, PartText, PartTexts, Pattern,
+    PatternNode, Place, Placed, ReactionText, Relation, Sequence, SourceText, Statement, Step,
+    TEXT_LIMIT, Unary, Variable,
 };
 pub use sources::{NESTING_LIMIT, SOURCE_LIMIT, parse};

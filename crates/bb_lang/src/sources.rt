@@ -1,8 +1,8 @@
-//! Sources, as they are read: a function for each production. Whoever has a text of sources calls `parse`.
+//! Readers of sources: a function for each production. Callers with a text of sources call `parse`.
 
 ghost use Rattle.std.specs.Prelude.{◌≡◌, ◌<◌, codes};
 ghost use Rattle.bb_basis.specs.Results.{Gives};
-ghost use Rattle.bb_lang_token.specs.declared.fault.LangFault.TheVariants.{Memory as OutOfMemory};
+ghost use Rattle.bb_lang_tree.specs.declared.fault.LangFault.TheVariants.{Memory as OutOfMemory};
 ghost use Rattle.bb_lang.specs.Repeats.{as_many};
 ghost use Rattle.bb_lang.specs.Statements.{block};
 ghost use Rattle.bb_lang.specs.Sources.{part, part_if, reaction, reaction_if, parts, act, source_word, source_name};
@@ -11,20 +11,21 @@ ghost use Rattle.bb_lang.specs.Sources.{header, rating, source, next_source, sou
 use crate::clauses::read_clauses;
 use crate::statements::read_block;
 use bb_basis::{Items, Text};
-use bb_lang_token::{LangFault, Parser};
-use bb_lang_tree::{ActText, Block, HeaderText, PartText, PartTexts, ReactionText, SourceText};
+use bb_lang_tree::{
+    ActText, Block, HeaderText, LangFault, Parser, PartText, PartTexts, ReactionText, SourceText,
+};
 use std::alloc::Global;
 
-/// The greatest number of sources.
+/// The maximum number of sources in a text.
 pub const SOURCE_LIMIT: usize = 256;
 
-/// How many brackets may be open at once.
+/// The maximum number of brackets that are open at once.
 pub const NESTING_LIMIT: usize = 64;
 
-/// How many may still be opened in the bracket of a source.
+/// How many more brackets may be opened inside the bracket of a source.
 pub(crate) const BLOCK_NESTING: usize = NESTING_LIMIT - 1;
 
-// The block of a part, in the bracket of its source.
+// Reads the block of a part, inside the bracket of its source.
 fn read_part_block(parser: &mut Parser<'_>) -> Result<Block, LangFault>
     ensures { Gives OutOfMemory (λ b. (b, parser.new.state)) result (block BLOCK_NESTING parser.old.state) }
 {
@@ -32,7 +33,7 @@ fn read_part_block(parser: &mut Parser<'_>) -> Result<Block, LangFault>
     read_block(parser)
 }
 
-// A part that is a block, at its word.
+// Reads a part that is a block, from its keyword on.
 #[tactic(auto, unfolding(crate::specs::Sources::part))]
 fn read_part(parser: &mut Parser<'_>) -> Result<PartText, LangFault>
     ensures { Gives OutOfMemory (λ p. (p, parser.new.state)) result (part parser.old.state) }
@@ -43,7 +44,7 @@ fn read_part(parser: &mut Parser<'_>) -> Result<PartText, LangFault>
     Ok(PartText { place, block })
 }
 
-// A part that is a block, if it comes.
+// Reads a part that is a block, if its keyword is next.
 #[tactic(auto, unfolding(crate::specs::Sources::part_if))]
 fn read_part_if(parser: &mut Parser<'_>, word: &str) -> Result<Option<PartText>, LangFault>
     ensures { Gives OutOfMemory (λ p. (p, parser.new.state)) result (part_if word.now parser.old.state) }
@@ -54,7 +55,7 @@ fn read_part_if(parser: &mut Parser<'_>, word: &str) -> Result<Option<PartText>,
     Ok(Some(read_part(parser)?))
 }
 
-// A reaction, at its word.
+// Reads a reaction, from its keyword on.
 #[tactic(auto, unfolding(crate::specs::Sources::reaction))]
 fn read_reaction(parser: &mut Parser<'_>) -> Result<ReactionText, LangFault>
     ensures { Gives OutOfMemory (λ r. (r, parser.new.state)) result (reaction parser.old.state) }
@@ -75,7 +76,7 @@ fn read_reaction(parser: &mut Parser<'_>) -> Result<ReactionText, LangFault>
     })
 }
 
-// A reaction, if it comes.
+// Reads a reaction, if its keyword is next.
 #[tactic(auto, unfolding(crate::specs::Sources::reaction_if))]
 fn read_reaction_if(parser: &mut Parser<'_>, word: &str) -> Result<Option<ReactionText>, LangFault>
     ensures { Gives OutOfMemory (λ r. (r, parser.new.state)) result (reaction_if word.now parser.old.state) }
@@ -86,7 +87,7 @@ fn read_reaction_if(parser: &mut Parser<'_>, word: &str) -> Result<Option<Reacti
     Ok(Some(read_reaction(parser)?))
 }
 
-// The parts besides the act.
+// Reads the parts other than the act.
 #[tactic(auto, unfolding(crate::specs::Sources::parts))]
 fn read_parts(parser: &mut Parser<'_>) -> Result<PartTexts, LangFault>
     ensures { Gives OutOfMemory (λ p. (p, parser.new.state)) result (parts parser.old.state) }
@@ -103,7 +104,7 @@ fn read_parts(parser: &mut Parser<'_>) -> Result<PartTexts, LangFault>
     })
 }
 
-// What an activation does.
+// Reads the act: what an activation does.
 #[tactic(auto, unfolding(crate::specs::Sources::act))]
 fn read_act(parser: &mut Parser<'_>) -> Result<ActText, LangFault>
     ensures { Gives OutOfMemory (λ a. (a, parser.new.state)) result (act parser.old.state) }
@@ -116,7 +117,7 @@ fn read_act(parser: &mut Parser<'_>) -> Result<ActText, LangFault>
     Ok(ActText::Native)
 }
 
-// The word `source`.
+// Reads the word `source`.
 #[tactic(auto, unfolding(crate::specs::Sources::source_word))]
 fn read_source_word(parser: &mut Parser<'_>) -> Result<(), LangFault>
     ensures { Gives OutOfMemory (λ _. parser.new.state) result (source_word parser.old.state) }
@@ -131,7 +132,7 @@ fn read_source_word(parser: &mut Parser<'_>) -> Result<(), LangFault>
     parser.advance()
 }
 
-// The name of a source.
+// Reads the name of a source.
 #[tactic(auto, unfolding(crate::specs::Sources::source_name))]
 fn read_source_name(parser: &mut Parser<'_>) -> Result<Text, LangFault>
     ensures { Gives OutOfMemory (λ t. (t, parser.new.state)) result (source_name parser.old.state) }
@@ -147,7 +148,7 @@ fn read_source_name(parser: &mut Parser<'_>) -> Result<Text, LangFault>
     Ok(name)
 }
 
-// The name and the class of a source.
+// Reads the name and the class of a source.
 #[tactic(auto, unfolding(crate::specs::Sources::header))]
 fn read_header(parser: &mut Parser<'_>) -> Result<HeaderText, LangFault>
     ensures { Gives OutOfMemory (λ h. (h, parser.new.state)) result (header parser.old.state) }
@@ -160,7 +161,7 @@ fn read_header(parser: &mut Parser<'_>) -> Result<HeaderText, LangFault>
     Ok(HeaderText { name, on, class })
 }
 
-// The base rating.
+// Reads the base rating.
 #[tactic(auto, unfolding(crate::specs::Sources::rating))]
 fn read_rating(parser: &mut Parser<'_>) -> Result<i64, LangFault>
     ensures { Gives OutOfMemory (λ n. (n, parser.new.state)) result (rating parser.old.state) }
@@ -171,7 +172,7 @@ fn read_rating(parser: &mut Parser<'_>) -> Result<i64, LangFault>
     Ok(rate)
 }
 
-// A source.
+// Reads a source.
 #[tactic(auto, unfolding(crate::specs::Sources::source))]
 fn read_source(parser: &mut Parser<'_>) -> Result<SourceText, LangFault>
     ensures { Gives OutOfMemory (λ s. (s, parser.new.state)) result (source parser.old.state) }
@@ -192,7 +193,7 @@ fn read_source(parser: &mut Parser<'_>) -> Result<SourceText, LangFault>
     })
 }
 
-// One more source, if the text does not end.
+// Reads the next source, if the text does not end here.
 #[tactic(auto, unfolding(crate::specs::Sources::next_source))]
 fn read_next_source(parser: &mut Parser<'_>) -> Result<Option<SourceText>, LangFault>
     ensures { Gives OutOfMemory (λ o. (o, parser.new.state)) result (next_source parser.old.state) }
@@ -203,7 +204,7 @@ fn read_next_source(parser: &mut Parser<'_>) -> Result<Option<SourceText>, LangF
     Ok(Some(read_source(parser)?))
 }
 
-// As many sources as come.
+// Reads sources until the end of the text.
 #[tactic(auto, unfolding(crate::specs::Repeats::as_many))]
 fn read_sources(parser: &mut Parser<'_>) -> Result<Vec<SourceText>, LangFault>
     ensures { Gives OutOfMemory (λ v. (v.items, parser.new.state)) result (as_many next_source parser.old.state) }
@@ -218,8 +219,8 @@ fn read_sources(parser: &mut Parser<'_>) -> Result<Vec<SourceText>, LangFault>
     Ok(sources)
 }
 
-/// Returns the sources of a text in its order, or the first fault: that of the lowest place, at one place that of the
-/// lowest number. `Memory` may come at any point.
+/// Returns the sources of a text, in its order, or the first fault: the one at the first location and, of several
+/// there, the one with the lowest number. `Memory` may occur at any point.
 #[tactic(auto, unfolding(crate::specs::Sources::sources_of))]
 pub fn parse(alloc: Global, text: &str) -> Result<Vec<SourceText>, LangFault>
     ensures { Gives OutOfMemory (λ v. v.items) result (sources_of text.now) }

@@ -1,8 +1,8 @@
-//! Statements and blocks, as they are read: a function for each production. The reader of sources calls `read_block`.
+//! Readers of statements and blocks: a function for each production. The reader of sources calls `read_block`.
 
 ghost use Rattle.std.specs.Prelude.{◌≡◌, ◌<◌, Some, None, OnOk};
 ghost use Rattle.bb_basis.specs.Results.{Gives};
-ghost use Rattle.bb_lang_token.specs.declared.fault.LangFault.TheVariants.{Memory as OutOfMemory};
+ghost use Rattle.bb_lang_tree.specs.declared.fault.LangFault.TheVariants.{Memory as OutOfMemory};
 ghost use Rattle.bb_lang.specs.Repeats.{as_many};
 ghost use Rattle.bb_lang.specs.Statements.{plain, otherwise_in, if_in, bound, binding, with_in, for_in, statement_in};
 ghost use Rattle.bb_lang.specs.Statements.{next_statement, block};
@@ -11,10 +11,11 @@ use crate::actions::read_action;
 use crate::atoms::read_variable;
 use crate::expressions::{close, open, read_expr, read_sequence};
 use bb_basis::Text;
-use bb_lang_token::{LangFault, Parser};
-use bb_lang_tree::{Binding, Block, Branches, ForLoop, Placed, Statement, Variable};
+use bb_lang_tree::{
+    Binding, Block, Branches, ForLoop, LangFault, Parser, Placed, Statement, Variable,
+};
 
-// A statement without blocks.
+// Reads a statement without blocks.
 #[tactic(auto, unfolding(crate::specs::Statements::plain))]
 fn read_plain(parser: &mut Parser<'_>) -> Result<Statement, LangFault>
     ensures read { Gives OutOfMemory (λ s. (s, parser.new.state)) result (plain parser.old.nesting parser.old.state) }
@@ -25,7 +26,7 @@ fn read_plain(parser: &mut Parser<'_>) -> Result<Statement, LangFault>
     Ok(Statement::Action(action))
 }
 
-// The test of a `with`.
+// Reads the test of a `with`.
 #[tactic(auto, unfolding(crate::specs::Statements::bound))]
 fn read_bound(parser: &mut Parser<'_>, name: Text, unit: Variable) -> Result<Binding, LangFault>
     ensures read { Gives OutOfMemory (λ b. (b, parser.new.state)) result (bound name unit parser.old.state) }
@@ -41,7 +42,7 @@ fn read_bound(parser: &mut Parser<'_>, name: Text, unit: Variable) -> Result<Bin
     Ok(Binding::Linked { name, unit, slot })
 }
 
-// What a `with` declares.
+// Reads the name that a `with` declares, and its test.
 #[tactic(auto, unfolding(crate::specs::Statements::binding))]
 fn read_binding(parser: &mut Parser<'_>) -> Result<Binding, LangFault>
     ensures read { Gives OutOfMemory (λ b. (b, parser.new.state)) result (binding parser.old.state) }
@@ -53,7 +54,7 @@ fn read_binding(parser: &mut Parser<'_>) -> Result<Binding, LangFault>
     read_bound(parser, name, unit)
 }
 
-// The block of an `else`, if one comes.
+// Reads the block of an `else`, if one follows.
 #[cycle(statements)]
 #[tactic(auto, unfolding(crate::specs::Statements::otherwise_in))]
 fn read_otherwise(parser: &mut Parser<'_>) -> Result<Option<Block>, LangFault>
@@ -68,7 +69,7 @@ fn read_otherwise(parser: &mut Parser<'_>) -> Result<Option<Block>, LangFault>
     Ok(Some(read_block(parser)?))
 }
 
-// `if`
+// Reads an `if`.
 #[cycle(statements)]
 #[tactic(auto, unfolding(crate::specs::Statements::if_in))]
 fn read_if(parser: &mut Parser<'_>) -> Result<Statement, LangFault>
@@ -84,7 +85,7 @@ fn read_if(parser: &mut Parser<'_>) -> Result<Statement, LangFault>
     Ok(Statement::If { test, branches })
 }
 
-// `with`
+// Reads a `with`.
 #[cycle(statements)]
 #[tactic(auto, unfolding(crate::specs::Statements::with_in))]
 fn read_with(parser: &mut Parser<'_>) -> Result<Statement, LangFault>
@@ -102,7 +103,7 @@ fn read_with(parser: &mut Parser<'_>) -> Result<Statement, LangFault>
     Ok(Statement::With { binding, branches })
 }
 
-// `for`
+// Reads a `for`.
 #[cycle(statements)]
 #[tactic(auto, unfolding(crate::specs::Statements::for_in))]
 fn read_for(parser: &mut Parser<'_>) -> Result<Statement, LangFault>
@@ -124,7 +125,7 @@ fn read_for(parser: &mut Parser<'_>) -> Result<Statement, LangFault>
     }))
 }
 
-// A statement.
+// Reads a statement.
 #[cycle(statements)]
 #[tactic(auto, unfolding(crate::specs::Statements::statement_in))]
 fn read_statement(parser: &mut Parser<'_>) -> Result<Statement, LangFault>
@@ -144,7 +145,7 @@ fn read_statement(parser: &mut Parser<'_>) -> Result<Statement, LangFault>
     read_plain(parser)
 }
 
-// One more statement of a block, if one comes.
+// Reads the next statement of a block, if the block does not end here.
 #[cycle(statements)]
 #[tactic(auto, unfolding(crate::specs::Statements::next_statement))]
 fn read_next_statement(parser: &mut Parser<'_>) -> Result<Option<Placed>, LangFault>
@@ -160,7 +161,7 @@ fn read_next_statement(parser: &mut Parser<'_>) -> Result<Option<Placed>, LangFa
     Ok(Some(Placed { place, statement }))
 }
 
-// As many statements as come.
+// Reads statements until the end of the block.
 #[cycle(statements)]
 #[tactic(auto, unfolding(crate::specs::Repeats::as_many))]
 fn read_statements(parser: &mut Parser<'_>) -> Result<Vec<Placed>, LangFault>
@@ -178,7 +179,7 @@ fn read_statements(parser: &mut Parser<'_>) -> Result<Vec<Placed>, LangFault>
     Ok(statements)
 }
 
-/// A block: the names that are declared in it are in scope up to its end.
+/// Reads a block. Names declared in it are in scope up to its end.
 #[cycle(statements)]
 pub(crate) fn read_block(parser: &mut Parser<'_>) -> Result<Block, LangFault>
     ensures read { Gives OutOfMemory (λ b. (b, parser.new.state)) result (block parser.old.nesting parser.old.state) }

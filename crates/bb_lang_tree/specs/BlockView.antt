@@ -1,4 +1,4 @@
--- The trees of statements and blocks.
+-- The trees that values of `Statement` and `Block` stand for.
 use Rattle.std.specs.Prelude.{List, [], ◌∷◌, Option, Some, None}
 use Rattle.bb_lang_tree.specs.declared.block.Placed.{Placed}
 use Rattle.bb_lang_tree.specs.declared.block.Statement.{Statement}

@@ -2,7 +2,7 @@
 use Rattle.std.specs.Prelude.{ℕ, List}
 use Rattle.bb_lang_tree.specs.declared.block.Action.{Action}
 use Rattle.bb_lang_tree.specs.declared.block.Binding.{Binding}
-use Rattle.bb_lang_token.specs.declared.place.Place.{Place}
+use Rattle.bb_lang_tree.specs.declared.place.Place.{Place}
 use Rattle.bb_lang_tree.specs.declared.tree.Sequence.{Sequence}
 use Rattle.bb_lang_tree.specs.Trees.{ExprTree}
 

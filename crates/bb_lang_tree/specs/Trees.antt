@@ -15,27 +15,27 @@ mutual
     -- an operation on one operand, or on two
     unary : Unary → ExprTree → ExprTree
     binary : Binary → ExprTree → ExprTree → ExprTree
-    -- operands with operators of one rank between them, from the left
+    -- operands with operators of one level between them, grouped from the left
     chain : ExprTree → Steps → ExprTree
-    -- how many units are in a sequence
+    -- the number of units in a sequence
     size_of : SequenceTree → ExprTree
 
   pub data Steps : Type 0 where
     no_step : Steps
-    -- one more operator with its operand; a division by a number
+    -- an operator with its operand; a division by a number
     apply : Operator → ExprTree → Steps → Steps
     divide : Division → ℤ → Steps → Steps
 
   pub data SequenceTree : Type 0 where
-    -- the units of a class in a space of which the pattern holds
+    -- the units of a class in a space for which the pattern holds
     found : (class space : List ℕ) → PatternTree → SequenceTree
     -- the units that a unit is linked to
     linked : Variable → (slot : List ℕ) → SequenceTree
 
   pub data PatternTree : Type 0 where
-    -- holds of each unit
+    -- holds for every unit
     all : PatternTree
-    -- each part holds; one part holds; the part does not
+    -- every part holds; at least one part holds; the part does not hold
     and_of : Patterns → PatternTree
     or_of : Patterns → PatternTree
     not_of : PatternTree → PatternTree

@@ -1,4 +1,4 @@
--- The trees of expressions, sequences and patterns.
+-- The trees that values of `Expr`, `Sequence` and `Pattern` stand for.
 use Rattle.std.specs.Prelude.{List, [], ◌∷◌}
 use Rattle.bb_lang_tree.specs.declared.tree.ExprNode.{ExprNode}
 use Rattle.bb_lang_tree.specs.declared.tree.ExprNode.TheVariants as exprs

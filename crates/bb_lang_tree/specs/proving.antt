@@ -1,11 +1,15 @@
--- What only models and proofs speak of.
+-- Definitions used only in models and proofs.
 -- trees with a label at each node
 pub mod Rose
--- how expressions and patterns are stored as data that can be told apart
+-- an injective encoding of expressions and patterns
 pub mod Codes
--- an expression or a pattern is greater than each of its parts
+-- an expression or a pattern has more nodes than any of its parts
 pub mod Depths
--- how blocks are stored
+-- an injective encoding of blocks
 pub mod BlockCodes
--- a block is greater than each block in it
+-- a block has more nodes than any block in it
 pub mod BlockDepths
+-- the invariant of the names in scope
+pub mod Scopes
+-- the invariant of places
+pub mod Placed

@@ -1,8 +1,8 @@
-//! What expressions and patterns are made of, apart from their parts.
+//! Variables, atoms and operators, of which expressions and patterns are built.
 
 use bb_basis::Text;
 
-/// A unit by its name.
+/// A name in an expression: of a unit, or of another value.
 pub enum Variable {
     /// `it`: the unit that the source works on.
     It,
@@ -12,7 +12,7 @@ pub enum Variable {
     Named(Text),
 }
 
-// By hand, so that a proof meets one call where it is dropped, and not each of its variants.
+// Written by hand, so that a proof meets one call when it is dropped, not each of its variants.
 impl Drop for Variable {
     fn drop(self) {
         match self {
@@ -27,19 +27,19 @@ impl Drop for Variable {
 pub enum Atom {
     /// A whole number.
     Int(i64),
-    /// A text, without its quotes and with what its escapes stand for.
+    /// A text: the value of the constant, without quotes and escapes.
     Text(Text),
     /// `true` or `false`.
     Bool(bool),
     /// `set: label`.
     Label { set: Text, label: Text },
-    /// The unit or the value of a name.
+    /// The unit or value that a name stands for.
     Variable(Variable),
     /// `unit.slot`: the value that a unit has in a slot.
     Slot { unit: Variable, slot: Text },
 }
 
-// By hand, so that a proof meets one call where it is dropped, and not each of its variants.
+// Written by hand, so that a proof meets one call when it is dropped, not each of its variants.
 impl Drop for Atom {
     fn drop(self) {
         match self {
@@ -81,7 +81,7 @@ pub enum Binary {
     Interval,
 }
 
-/// What stands between the operands of a chain.
+/// An operator between the operands of a chain.
 #[derive(Clone, Copy, Debug, PartialEq, Eq)]
 pub enum Operator {
     /// `or`
@@ -96,7 +96,7 @@ pub enum Operator {
     Times,
 }
 
-/// A division by a fixed number.
+/// A division by a constant.
 #[derive(Clone, Copy, Debug, PartialEq, Eq)]
 pub enum Division {
     /// `/`
@@ -105,7 +105,7 @@ pub enum Division {
     Remainder,
 }
 
-/// What a test says of a unit's value on a dimension and an operand.
+/// The relation of a test, between a unit's value on a dimension and an operand.
 #[derive(Clone, Copy, Debug, PartialEq, Eq)]
 pub enum Relation {
     /// `within`

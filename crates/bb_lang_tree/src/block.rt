@@ -1,9 +1,9 @@
-//! Statements and blocks, which hold one another. The reader of statements (bb_lang) makes them.
+//! Statements and blocks, which contain one another. The reader of statements (bb_lang) makes them.
 
 use crate::atom::Variable;
+use crate::place::Place;
 use crate::tree::{Expr, Sequence};
 use bb_basis::{Items, Text};
-use bb_lang_token::Place;
 use std::marker::Model;
 
 /// A statement without blocks.
@@ -65,7 +65,7 @@ pub enum Action {
     Answer(Expr),
 }
 
-// By hand, so that a proof meets one call where it is dropped, and not each of its variants.
+// Written by hand, so that a proof meets one call when it is dropped, not each of its variants.
 impl Drop for Action {
     fn drop(self) {
         match self {
@@ -98,15 +98,15 @@ impl Drop for Action {
     }
 }
 
-/// What a `with` declares: a name for a unit that passes its test.
+/// What a `with` declares: a name for a unit that passes the test.
 pub enum Binding {
-    /// `name = unit as class`: the unit is live and of the class.
+    /// `name = unit as class`: tests that the unit exists and is of the class.
     As {
         name: Text,
         unit: Variable,
         class: Text,
     },
-    /// `name = unit.slot`: the unit has a partner there, which the name is for.
+    /// `name = unit.slot`: tests that the unit has a partner in the slot; the name is the partner's.
     Linked {
         name: Text,
         unit: Variable,
@@ -114,7 +114,7 @@ pub enum Binding {
     },
 }
 
-// By hand, so that a proof meets one call where it is dropped, and not each of its variants.
+// Written by hand, so that a proof meets one call when it is dropped, not each of its variants.
 impl Drop for Binding {
     fn drop(self) {
         match self {
@@ -171,13 +171,13 @@ pub enum Statement {
 #[cycle(block)]
 #[derive(Drop)]
 pub struct Branches {
-    /// Where the test holds.
+    /// Executed if the test holds.
     pub then: Block,
-    /// Where it does not, if there is an `else`.
+    /// Executed if it does not, if there is an `else`.
     pub otherwise: Option<Block>,
 }
 
-/// A block for each unit of a sequence, which has a name in it.
+/// A block that is executed for each unit of a sequence, under a name.
 #[cycle(block)]
 #[derive(Drop)]
 pub struct ForLoop {
@@ -209,14 +209,14 @@ impl Block {
     ghost use Rattle.std.specs.Prelude.{◌≡◌};
     ghost use Rattle.bb_lang_tree.specs.BlockView.{block_of};
 
-    /// The block of statements.
+    /// Makes a block of statements.
     pub fn new(statements: Vec<Placed>) -> Block
         ensures { result ≡ block_of statements.items }
     {
         Block { statements }
     }
 
-    /// The statements.
+    /// Returns the statements.
     pub fn statements(&self) -> &[Placed]
         ensures { block_of result.now ≡ self.now }
     {

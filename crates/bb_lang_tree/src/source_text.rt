@@ -1,11 +1,11 @@
-//! A source as a text has it: its names are texts that are not looked up yet. `parse` of bb_lang makes it.
+//! A parsed source: its names are texts, not looked up yet. `parse` of bb_lang makes it.
 
 use crate::block::Block;
+use crate::place::Place;
 use bb_basis::{Items, Text};
-use bb_lang_token::Place;
 use std::alloc::AllocError;
 
-/// What happens, as a clause names it.
+/// The kind of change that a clause names.
 pub enum ChangeText {
     /// A unit is created.
     Create,
@@ -15,7 +15,7 @@ pub enum ChangeText {
     Update(Text),
     /// A link is added to the slot of this name.
     Link(Text),
-    /// A link is taken from the slot of this name.
+    /// A link is removed from the slot of this name.
     Unlink(Text),
     /// A unit enters the space of this name.
     Enter(Text),
@@ -23,7 +23,7 @@ pub enum ChangeText {
     Leave(Text),
 }
 
-// By hand, so that a proof meets one call where it is dropped, and not each of its variants.
+// Written by hand, so that a proof meets one call when it is dropped, not each of its variants.
 impl Drop for ChangeText {
     fn drop(self) {
         match self {
@@ -38,15 +38,15 @@ impl Drop for ChangeText {
     }
 }
 
-/// Which events a clause names.
+/// The events that a clause names.
 pub enum ClauseText {
-    /// A change of this kind, of a unit whose class has this name or descends from it.
+    /// A change of this kind, to a unit whose class has this name or descends from it.
     Change { kind: ChangeText, class: Text },
     /// No activation could be chosen.
     Quiescence,
 }
 
-// By hand, so that a proof meets one call where it is dropped, and not each of its variants.
+// Written by hand, so that a proof meets one call when it is dropped, not each of its variants.
 impl Drop for ClauseText {
     fn drop(self) {
         match self {
@@ -96,7 +96,7 @@ pub struct PartText {
     pub block: Block,
 }
 
-// By hand, so that a proof meets one call where it is dropped, and not each of its parts.
+// Written by hand, so that a proof meets one call when it is dropped, not each of its parts.
 impl Drop for PartText {
     fn drop(self) {
         let PartText { place: _, block: _ } = self;
@@ -113,7 +113,7 @@ pub struct ReactionText {
     pub block: Block,
 }
 
-// By hand, so that a proof meets one call where it is dropped, and not each of its parts.
+// Written by hand, so that a proof meets one call when it is dropped, not each of its parts.
 impl Drop for ReactionText {
     fn drop(self) {
         let ReactionText {
@@ -134,7 +134,7 @@ pub enum ActText {
     Native,
 }
 
-// By hand, so that a proof meets one call where it is dropped, and not each of its variants.
+// Written by hand, so that a proof meets one call when it is dropped, not each of its variants.
 impl Drop for ActText {
     fn drop(self) {
         match self {
@@ -151,7 +151,7 @@ pub struct HeaderText {
     pub class: Text,
 }
 
-// By hand, so that a proof meets one call where it is dropped, and not each of its parts.
+// Written by hand, so that a proof meets one call when it is dropped, not each of its parts.
 impl Drop for HeaderText {
     fn drop(self) {
         let HeaderText {
@@ -162,19 +162,19 @@ impl Drop for HeaderText {
     }
 }
 
-/// The parts of a source besides its act, where the text has them.
+/// The parts of a source other than its act, if the text has them.
 pub struct PartTexts {
-    /// Whether an event that triggers it makes an activation, and with which base rating.
+    /// Decides whether a triggering event makes an activation, and its base rating.
     pub require: Option<PartText>,
-    /// Which pending activations end without acting.
+    /// Selects the pending activations that end without acting.
     pub obviate: Option<ReactionText>,
-    /// Which pending activations are rated again.
+    /// Selects the pending activations that are rated again.
     pub retrigger: Option<ReactionText>,
-    /// Whether an activation that was chosen may still act.
+    /// Decides whether a chosen activation may still act.
     pub revalidate: Option<PartText>,
 }
 
-// By hand, so that a proof meets one call where it is dropped, and not each of its parts.
+// Written by hand, so that a proof meets one call when it is dropped, not each of its parts.
 impl Drop for PartTexts {
     fn drop(self) {
         let PartTexts {
@@ -190,17 +190,17 @@ impl Drop for PartTexts {
 pub struct SourceText {
     /// The source's name and class.
     pub header: HeaderText,
-    /// Which events trigger it. There is at least one.
+    /// The events that trigger it. There is at least one clause.
     pub clauses: Items<ClauseText>,
     /// The base rating of its activations.
     pub rate: i64,
-    /// The parts besides the act.
+    /// The parts other than the act.
     pub parts: PartTexts,
     /// What an activation does.
     pub act: ActText,
 }
 
-// By hand, so that a proof meets one call where it is dropped, and not each of its parts.
+// Written by hand, so that a proof meets one call when it is dropped, not each of its parts.
 impl Drop for SourceText {
     fn drop(self) {
         let SourceText {

@@ -1,4 +1,4 @@
-//! Expressions, the sequences that a loop goes over, and the patterns of `find`. They hold one another.
+//! Expressions, the sequences that loops iterate over, and the patterns of `find`. They contain one another.
 
 use crate::atom::{Atom, Binary, Division, Operator, Relation, Unary, Variable};
 use bb_basis::Text;
@@ -11,7 +11,7 @@ pub struct Expr {
     pub(crate) node: ExprNode,
 }
 
-/// What an expression is made of.
+/// The top of an expression, with its parts.
 #[cycle(tree)]
 #[derive(Drop)]
 pub enum ExprNode {
@@ -28,17 +28,16 @@ pub enum ExprNode {
         left: Box<Expr>,
         right: Box<Expr>,
     },
-    /// Operands with operators of one rank between them, each of which takes all that comes before it. There is at
-    /// least one step.
+    /// Operands with operators of one level between them, grouped from the left. There is at least one step.
     Chain {
         first: Box<Expr>,
         steps: Vec<Step>,
     },
-    /// `size(..)`: how many units are in a sequence.
+    /// `size(..)`: the number of units in a sequence.
     Size(Box<Sequence>),
 }
 
-/// One more operator of a chain, with its operand.
+/// An operator of a chain, with the operand after it.
 #[cycle(tree)]
 #[derive(Drop)]
 pub enum Step {
@@ -58,7 +57,7 @@ pub enum Sequence {
         space: Text,
         pattern: Pattern,
     },
-    /// `unit.slot`: the units that a unit is linked to.
+    /// `unit.slot`: the units that a unit is linked to by a slot.
     Links {
         unit: Variable,
         slot: Text,
@@ -72,17 +71,17 @@ pub struct Pattern {
     pub(crate) node: PatternNode,
 }
 
-/// What a pattern is made of.
+/// The top of a pattern, with its parts.
 #[cycle(tree)]
 #[derive(Drop)]
 pub enum PatternNode {
-    /// `all`: it holds of each unit.
+    /// `all`: holds for every unit.
     All,
-    /// `and(..)`: each of these holds.
+    /// `and(..)`: holds if all of these hold.
     And(Vec<Pattern>),
-    /// `or(..)`: one of these holds.
+    /// `or(..)`: holds if at least one of these holds.
     Or(Vec<Pattern>),
-    /// `not(..)`: this does not hold.
+    /// `not(..)`: holds if this does not.
     Not(Box<Pattern>),
     /// `dimension relation operand`
     Test {
@@ -134,14 +133,14 @@ impl Expr {
     ghost use Rattle.std.specs.Prelude.{◌≡◌};
     ghost use Rattle.bb_lang_tree.specs.View.{expr_of};
 
-    /// The expression of a node.
+    /// Makes the expression with this top node.
     pub fn new(node: ExprNode) -> Expr
         ensures { result ≡ expr_of node }
     {
         Expr { node }
     }
 
-    /// The node at the top.
+    /// Returns the top node.
     pub fn node(&self) -> &ExprNode
         ensures { expr_of result.now ≡ self.now }
     {
@@ -153,14 +152,14 @@ impl Pattern {
     ghost use Rattle.std.specs.Prelude.{◌≡◌};
     ghost use Rattle.bb_lang_tree.specs.View.{pattern_of};
 
-    /// The pattern of a node.
+    /// Makes the pattern with this top node.
     pub fn new(node: PatternNode) -> Pattern
         ensures { result ≡ pattern_of node }
     {
         Pattern { node }
     }
 
-    /// The node at the top.
+    /// Returns the top node.
     pub fn node(&self) -> &PatternNode
         ensures { pattern_of result.now ≡ self.now }
     {

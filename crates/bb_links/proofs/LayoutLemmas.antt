@@ -7,10 +7,10 @@ use Rattle.std.proofs.lemmas.List.{append-nil, length-map}
 use Rattle.std.proofs.lemmas.List.Elements.{All-map}
 use Rattle.std.proofs.lemmas.List.FromFn.{length-map-range_with_len, get_or-map-range_with_len}
 use Rattle.std.proofs.lemmas.Option.{slice_get-get_or, slice_get_past, get_or_from_slice_get, slice_get_within}
-use Rattle.bb_schema_slots.specs.declared.slot.Slot.{Slot}
+use Rattle.bb_schema.specs.declared.slot.Slot.{Slot}
 use Rattle.bb_schema.specs.declared.couple.Side.{Side}
 use Rattle.bb_schema.specs.Schema.{Schema}
-use Rattle.bb_schema_slots.specs.Slots.{link_in}
+use Rattle.bb_schema.specs.Slots.{link_in}
 use Rattle.bb_schema.specs.Couples.{comes_first, firsts, couples, couple_of, couple_end}
 use Rattle.bb_links.specs.declared.couple.Singular.{Singular}
 use Rattle.bb_links.specs.Layout.{singular_of, slot_ends, end_among}

@@ -1,4 +1,4 @@
--- All couples of link slots with their pairs, and each change of them (GBBopen Reference Manual, link slots).
+-- All couples of link slots with their pairs, and every change of them (GBBopen Reference Manual, link slots).
 use Rattle.std.specs.Prelude.{ℕ, Bool, List, [], map, slice_get, slice_set, Option, option_map}
 use Rattle.std.specs.Option.{option_map_or}
 use Rattle.bb_schema.specs.declared.couple.Side.{Side}
@@ -14,7 +14,7 @@ pub record Couple : Type 0 where
   pub pairs : List (ℕ × ℕ)
 
 pub record Couples : Type 0 where
-  -- the couples by their numbers
+  -- the couples, by number
   pub couples : List Couple
   -- by slot, the couple and the side of a link slot
   pub ends : List (Option (ℕ × Side))
@@ -49,11 +49,11 @@ unlinked a b k = with_pairs k (without_pair (a, b) k.pairs)
 abbrev pub forgotten : ℕ → Couple → Couple
 forgotten n k = with_pairs k (without_unit n k.pairs)
 
--- the couples with another one at a number
+-- the couples with another couple at a number
 abbrev pub with_couple : Couples → ℕ → Couple → Couples
 with_couple c couple k = record { couples = slice_set c.couples couple k; ends = c.ends }
 
--- the couples with one changed
+-- the couples with a changed one
 abbrev pub changed : (Couple → Couple) → Couples → ℕ → Couples
 changed change c couple = option_map_or (λ k. with_couple c couple (change k)) (slice_get c.couples couple) c
 
@@ -61,7 +61,7 @@ changed change c couple = option_map_or (λ k. with_couple c couple (change k)) 
 abbrev pub after_link : Couples → ℕ → ℕ → ℕ → Couples
 after_link c couple a b = changed (linked a b) c couple
 
--- what the link takes away, and whether it adds a pair
+-- what the link removes, and whether it adds a pair
 abbrev pub taken : Couples → ℕ → ℕ → ℕ → Option Taken
 taken c couple a b = option_map (λ k. taken_among k.singular a b k.pairs) (slice_get c.couples couple)
 

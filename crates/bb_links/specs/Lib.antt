@@ -1,12 +1,12 @@
--- the pairs of one couple, and each change of them
+-- the pairs of one couple, and every change of them
 pub mod Pairs
--- which couples a schema has, and which couple each link slot belongs to
+-- the couples of a schema, and the couple of each link slot
 pub mod Layout
--- all couples, and each change of them
+-- all couples, and every change of them
 pub mod Couples
 -- the links of a unit by a slot
 pub mod Links
--- what holds of all couples at any time
+-- the invariant of the couples
 pub mod Fits
--- what only invariants and proofs speak of
+-- definitions that only invariants and proofs use
 pub mod proving

@@ -10,10 +10,10 @@ use Rattle.bb_links.specs.Couples.{Couples, end_of, pairs_of}
 abbrev pub partners : Side → ℕ → List (ℕ × ℕ) → List ℕ
 partners side n pairs = map (far side) (filter (λ p. near side p == n) pairs)
 
--- the pairs of the couple of a slot, in order of addition, the unit at side A first; none where it is no link slot
+-- the pairs of a slot's couple, in order of addition, the unit at side A first; none if it is not a link slot
 abbrev pub pairs_by : Couples → (slot : ℕ) → List (ℕ × ℕ)
 pairs_by c slot = option_map_or (λ e. pairs_of c e.0) (end_of c slot) []
 
--- the links of a unit by a slot: its partners in the couple's list, where the unit is at the slot's side
+-- the links of a unit by a slot: its partners at the slot's side, in the pairs of the couple
 abbrev pub ends : Couples → ℕ → ℕ → List ℕ
 ends c n slot = option_map_or (λ e. partners e.1 n (pairs_of c e.0)) (end_of c slot) []

@@ -12,14 +12,14 @@ use bb_schema::{Side, UnitId};
 use std::alloc::{AllocError, Global};
 use std::marker::Model;
 
-/// Which sides of a couple are singular: a unit there has one partner at most.
+/// Which sides of a couple are singular. A unit has at most one partner at such a side.
 #[derive(Clone, Copy, Debug, Drop)]
 pub(crate) struct Singular {
     pub a: bool,
     pub b: bool,
 }
 
-/// A couple: which of its sides are singular, and its pairs in order of addition.
+/// A couple: which sides are singular, and its pairs in order of addition.
 #[derive(Drop)]
 pub(crate) struct Couple {
     singular: Singular,
@@ -35,7 +35,7 @@ impl Model for Couple {
 }
 
 impl Couple {
-    /// A couple without pairs. It allocates nothing.
+    /// Creates a couple without pairs, without allocating.
     pub(crate) fn new(alloc: Global, singular: Singular) -> Couple
         ensures { result ≡ no_pairs singular }
     {
@@ -45,7 +45,7 @@ impl Couple {
         }
     }
 
-    /// The partners of a unit at a side, in order of addition.
+    /// Returns the partners of a unit at a side, in order of addition.
     pub(crate) fn partners(
         &self,
         alloc: Global,
@@ -57,14 +57,14 @@ impl Couple {
         self.pairs.partners(alloc, side, unit)
     }
 
-    /// The first partner of a unit at a side.
+    /// Returns the first partner of a unit at a side.
     pub(crate) fn first(&self, side: Side, unit: UnitId) -> Option<UnitId>
         ensures { result ≡ slice_get (partners side unit self.now.pairs) 0 }
     {
         self.pairs.first(side, unit)
     }
 
-    /// The pairs in order of addition, the unit at side A first.
+    /// Returns the pairs in order of addition, each with the unit at side A first.
     pub(crate) fn pairs(&self, alloc: Global) -> Result<Vec<(UnitId, UnitId)>, Memory>
         ensures { IfOk result (λ list. list.items ≡ self.now.pairs) }
     {
@@ -81,7 +81,7 @@ impl Couple {
         }
     }
 
-    // The pair of a unit at a singular side.
+    // The pair of a unit at a side, if the side is singular.
     fn old_pair(&self, side: Side, unit: UnitId) -> Option<(UnitId, UnitId)>
         ensures { result ≡ old_pair self.now.singular side unit self.now.pairs }
     {
@@ -92,7 +92,7 @@ impl Couple {
         Some(side.pair(unit, partner))
     }
 
-    // Adds a pair that is not there, as the last. An error changes nothing.
+    // Appends a new pair. An error changes nothing.
     fn add(&mut self, a: UnitId, b: UnitId) -> Result<(), AllocError>
         requires { has_pair (a, b) self.old.pairs ≡ false }
         ensures ok { OnOk result (self.new ≡ with_pairs self.old (self.old.pairs ++ (a, b) ∷ [])) }
@@ -101,14 +101,14 @@ impl Couple {
         self.pairs.push((a, b))
     }
 
-    // Takes a pair away.
+    // Removes a pair.
     fn cut(&mut self, pair: (UnitId, UnitId))
         ensures { self.new ≡ with_pairs self.old (without_pair pair self.old.pairs) }
     {
         self.pairs.remove(pair);
     }
 
-    // Takes an old pair away, if there is one.
+    // Removes an old pair, if there is one.
     fn cut_old(&mut self, pair: Option<(UnitId, UnitId)>)
         ensures { self.new ≡ with_pairs self.old (without_old pair self.old.pairs) }
     {
@@ -118,14 +118,14 @@ impl Couple {
         }
     }
 
-    /// Whether two units are linked.
+    /// Returns whether two units are linked.
     pub(crate) fn has(&self, a: UnitId, b: UnitId) -> bool
         ensures { result ≡ has_pair (a, b) self.now.pairs }
     {
         self.pairs.contains((a, b))
     }
 
-    /// What a link of two units would take away and add.
+    /// Returns what linking two units would remove and add.
     pub(crate) fn taken(&self, a: UnitId, b: UnitId) -> Taken
         ensures { result ≡ taken_among self.now.singular a b self.now.pairs }
     {
@@ -155,7 +155,7 @@ impl Couple {
         Ok(taken)
     }
 
-    /// Takes the pair of two units away, and says whether it was there.
+    /// Removes the pair of two units, and returns whether it existed.
     pub(crate) fn unlink(&mut self, a: UnitId, b: UnitId) -> bool
         ensures was { result ≡ has_pair (a, b) self.old.pairs }
         ensures unlinked { self.new ≡ unlinked a b self.old }
@@ -167,7 +167,7 @@ impl Couple {
         true
     }
 
-    /// Takes away each pair of a unit.
+    /// Removes all pairs of a unit.
     pub(crate) fn forget(&mut self, unit: UnitId)
         ensures { self.new ≡ forgotten unit self.old }
     {

@@ -1,4 +1,4 @@
-//! All couples of link slots. The board changes them and reads them.
+//! All couples of link slots. The board reads and changes them.
 
 ghost use Rattle.std.specs.Prelude.{◌≡◌, ◌<◌, ℕ, Some, IfOk, OnOk, OnErr, true, length, map, slice_get};
 ghost use Rattle.bb_schema.specs.Couples.{couples, couple_of};
@@ -18,14 +18,14 @@ use bb_schema::{CoupleId, Schema, Side, SlotId, UnitId};
 use std::alloc::Global;
 use std::marker::Model;
 
-/// The links of a blackboard: for each couple of link slots the pairs of units that are linked, in order of addition
-/// (GBBopen Reference Manual, link slots).
+/// The links of a blackboard: for each couple of link slots, the pairs of linked units, in order of addition (GBBopen
+/// Reference Manual, link slots).
 #[derive(Drop)]
 pub struct Couples {
     couples: Vec<Couple>,
     // By slot, the couple and the side of a link slot.
     ends: Vec<Option<(CoupleId, Side)>>,
-    // The couples in which each unit may have pairs, so that a unit is forgotten without a walk over all couples.
+    // By unit, the couples in which it may have pairs, so that forgetting a unit doesn't scan all couples.
     standing: Lists,
 }
 
@@ -41,7 +41,7 @@ impl Model for Couples {
     ghost invariant = { λ c. AreKnown c.couples.items c.ends.items c.standing };
 }
 
-// The couple and the side of the slot of a number, if it is a link slot.
+// The couple and the side of a slot, if it is a link slot.
 fn end_at(ends: &[Option<(CoupleId, Side)>], slot: SlotId) -> Option<(CoupleId, Side)>
     ensures { result ≡ end_among ends.now slot }
 {
@@ -68,7 +68,7 @@ fn is_in(list: &[u64], number: u64) -> bool
     list.iter().any(|other| *other == number)
 }
 
-// Takes away each pair of a unit, in couples that a list has: all in which it has a pair.
+// Removes all pairs of a unit from the listed couples, which are all in which it has a pair.
 fn forget_each(couples: &mut Vec<Couple>, unit: UnitId, list: &[u64])
     requires { HasEach unit couples.old.items list.now }
     ensures { couples.new.items ≡ map (forgotten unit) couples.old.items }
@@ -83,7 +83,7 @@ fn forget_each(couples: &mut Vec<Couple>, unit: UnitId, list: &[u64])
 }
 
 impl Couples {
-    /// The couples of a schema, without pairs.
+    /// Creates the couples of a schema, without pairs.
     pub fn new(alloc: Global, schema: &Schema) -> Result<Couples, Memory>
         ensures links { IfOk result (λ c. c ≡ no_links schema.now) }
         ensures ends { IfOk result (λ c. (slot : ℕ) → end_of c slot ≡ couple_of schema.now slot) }
@@ -96,14 +96,14 @@ impl Couples {
         })
     }
 
-    /// The number of couples.
+    /// Returns the number of couples.
     pub fn count(&self) -> usize
         ensures { result ≡ length self.now.couples }
     {
         self.couples.len()
     }
 
-    /// Whether two units are linked through a couple, the first at side A.
+    /// Returns whether two units are linked through a couple, the first at side A.
     pub fn linked(&self, couple: CoupleId, a: UnitId, b: UnitId) -> bool
         requires { couple < length self.now.couples }
         ensures { result ≡ are_linked self.now couple a b }
@@ -111,7 +111,7 @@ impl Couples {
         self.couples[couple as usize].has(a, b)
     }
 
-    /// What a link of two units through a couple would take away and add, the first at side A.
+    /// Returns what linking two units through a couple would remove and add, the first at side A.
     pub fn taken(&self, couple: CoupleId, a: UnitId, b: UnitId) -> Taken
         requires { couple < length self.now.couples }
         ensures { taken self.now couple a b ≡ Some result }
@@ -119,8 +119,8 @@ impl Couples {
         self.couples[couple as usize].taken(a, b)
     }
 
-    /// Links two units through a couple, the first at side A, and says what changed. Nothing changes if they are
-    /// linked. Otherwise the old pair of each goes where its side is singular, and the new pair comes last. An error
+    /// Links two units through a couple, the first at side A, and returns what changed. Does nothing if they are
+    /// linked. Otherwise removes the old pair of each unit at a singular side, and appends the new pair. An error
     /// changes nothing.
     pub fn link(&mut self, couple: CoupleId, a: UnitId, b: UnitId) -> Result<Taken, Memory>
         requires { couple < length self.old.couples }
@@ -133,7 +133,7 @@ impl Couples {
         self.couples[couple as usize].link(a, b)
     }
 
-    /// Takes the pair of two units away, the first at side A, and says whether it was there.
+    /// Removes the pair of two units from a couple, the first at side A, and returns whether it existed.
     pub fn unlink(&mut self, couple: CoupleId, a: UnitId, b: UnitId) -> bool
         requires { couple < length self.old.couples }
         ensures was { result ≡ are_linked self.old couple a b }
@@ -142,7 +142,7 @@ impl Couples {
         self.couples[couple as usize].unlink(a, b)
     }
 
-    /// Takes away each pair of a unit, in all couples.
+    /// Removes all pairs of a unit, in all couples.
     pub fn forget(&mut self, unit: UnitId)
         ensures { self.new ≡ after_forget self.old unit }
     {
@@ -150,8 +150,8 @@ impl Couples {
         forget_each(&mut self.couples, unit, &couples);
     }
 
-    /// The links of a unit by a slot, in order of addition, in a list of their own. A slot that is no link slot has
-    /// none. It fails only for want of memory.
+    /// Returns the links of a unit by a slot, in order of addition, as a new list. It is empty if the slot is not a
+    /// link slot. Fails only if memory runs out.
     pub fn ends(&self, alloc: Global, unit: UnitId, slot: SlotId) -> Result<Vec<UnitId>, Memory>
         ensures { IfOk result (λ list. list.items ≡ ends self.now unit slot) }
     {
@@ -161,7 +161,7 @@ impl Couples {
         }
     }
 
-    /// The first link of a unit by a slot, which is the only one where the slot is singular.
+    /// Returns the first link of a unit by a slot: the only one, if the slot is singular.
     pub fn one(&self, unit: UnitId, slot: SlotId) -> Option<UnitId>
         ensures { result ≡ slice_get (ends self.now unit slot) 0 }
     {
@@ -171,8 +171,8 @@ impl Couples {
         }
     }
 
-    /// The pairs of the couple of a slot, in order of addition, each with the unit at side A first, in a list of their
-    /// own. A slot that is no link slot has none.
+    /// Returns the pairs of a slot's couple, in order of addition, each with the unit at side A first, as a new list.
+    /// It is empty if the slot is not a link slot.
     pub fn pairs(&self, alloc: Global, slot: SlotId) -> Result<Vec<(UnitId, UnitId)>, Memory>
         ensures { IfOk result (λ list. list.items ≡ pairs_by self.now slot) }
     {
@@ -182,8 +182,8 @@ impl Couples {
         }
     }
 
-    /// Does nothing, and says what holds of the couples at any time: no pair occurs twice in a couple; a unit has one
-    /// partner at most at a singular side; and the couple of each link slot is there.
+    /// Does nothing, but states what always holds of the couples: no pair occurs twice in a couple; a unit has at most
+    /// one partner at a singular side; and the couple of every link slot exists.
     pub fn fits(&self)
         ensures { Fits self.now }
     {

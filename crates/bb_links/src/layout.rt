@@ -1,4 +1,4 @@
-//! What the couples keep of their schema. `couples.rt` makes its couples of it.
+//! The parts of the schema that the couples keep. `couples.rt` creates its couples from them.
 
 ghost use Rattle.std.specs.Prelude.{◌≡◌, ◌<◌, IfOk, IfSome, length, map, slice_get, false, All};
 ghost use Rattle.std.specs.Option.{option_map_or};
@@ -11,7 +11,7 @@ use bb_basis::Memory;
 use bb_schema::{CoupleId, Schema, Side, SlotId};
 use std::alloc::Global;
 
-// Whether a slot is a link slot that holds one unit at most.
+// Whether a slot is a link slot that holds at most one unit.
 fn is_single(schema: &Schema, slot: SlotId) -> bool
     ensures { result ≡ is_single schema.now.slots slot }
 {
@@ -42,7 +42,7 @@ fn end_of(schema: &Schema, slot: SlotId) -> Option<(CoupleId, Side)>
     Some(schema.couple(slot))
 }
 
-/// By slot, the couple and the side of a link slot.
+/// Returns by slot the couple and the side of a link slot.
 pub(crate) fn slot_ends(
     alloc: Global,
     schema: &Schema,
@@ -57,7 +57,7 @@ pub(crate) fn slot_ends(
     Ok(ends)
 }
 
-/// A couple without pairs for each couple of the schema.
+/// Creates a couple without pairs for each couple of the schema.
 pub(crate) fn couples_of(alloc: Global, schema: &Schema) -> Result<Vec<Couple>, Memory>
     ensures { IfOk result (λ couples. couples.items ≡ map no_pairs (singulars schema.now)) }
 {

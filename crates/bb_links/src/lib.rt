@@ -1,8 +1,9 @@
-//! The links of a blackboard: for each couple of link slots the pairs of units that are linked, in order of addition.
+//! The links of a blackboard: for each couple (a link slot and its inverse), the pairs of linked units, in order of
+//! addition.
 //!
 //! - In: pairs to link and to unlink, and units to clear.
-//! - Out: `Couples`, and as `Taken` the pairs that a change took.
-//! - Callers rely on: both ends of a link are one pair, so they can't be out of step.
+//! - Out: `Couples`, and `Taken`, the pairs that a link removed.
+//! - Callers rely on: both ends of a link are one pair, so they always agree.
 //! - Cases: `links`, `linking`, `model-links`.
 #![tactic(auto)]
 

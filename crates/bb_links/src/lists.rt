@@ -1,4 +1,4 @@
-//! A list of numbers for each unit. `couples.rt` keeps in it the couples in which each unit may have a pair.
+//! A list of numbers for each unit. `couples.rt` stores the couples in which each unit may have a pair.
 
 ghost use Rattle.std.specs.Prelude.{◌≡◌, ℕ, [], OnOk, OnErr, IsSome};
 ghost use Rattle.std.specs.Ordering.{nat_cmp};
@@ -17,7 +17,7 @@ pub(crate) struct Lists {
 }
 
 impl Lists {
-    /// An empty list for each unit. It allocates nothing.
+    /// Creates an empty list for each unit, without allocating.
     pub(crate) fn new(alloc: Global) -> Lists
         ensures { (n : ℕ) → listed result.lists n ≡ [] }
     {
@@ -27,7 +27,7 @@ impl Lists {
         }
     }
 
-    /// The list of a unit.
+    /// Returns the list of a unit.
     pub(crate) fn of(&self, unit: UnitId) -> &[u64]
         ensures { result.now ≡ listed self.now.lists unit }
     {
@@ -37,7 +37,7 @@ impl Lists {
         }
     }
 
-    /// Gives a unit one more number, the last. An error changes nothing.
+    /// Appends a number to the list of a unit. An error changes nothing.
     pub(crate) fn add(&mut self, unit: UnitId, number: u64) -> Result<(), AllocError>
         ensures ok { OnOk result ((n : ℕ) → listed self.new.lists n ≡ one_more self.old.lists unit number n) }
         ensures err { OnErr result ((n : ℕ) → listed self.new.lists n ≡ listed self.old.lists n) }
@@ -51,7 +51,7 @@ impl Lists {
         Ok(())
     }
 
-    /// Takes all numbers of a unit.
+    /// Removes and returns all numbers of a unit.
     pub(crate) fn take(&mut self, unit: UnitId) -> Vec<u64>
         ensures list { result.items ≡ listed self.old.lists unit }
         ensures others { (n : ℕ) → listed self.new.lists n ≡ none_left self.old.lists unit n }
@@ -63,7 +63,7 @@ impl Lists {
     }
 }
 
-// Appends a number to the list of a unit that has one.
+// Appends a number to the list of a unit that already has numbers.
 fn push_at(
     lists: &mut BTreeMap<UnitId, Vec<u64>>,
     unit: UnitId,

@@ -1,5 +1,5 @@
-//! Maps from two numbers to one, in the order of the first and then of the second. `pairs.rt` keeps in them the stamps
-//! of its pairs, and the partners of each unit under the stamps of their pairs.
+//! Maps from two numbers to one, ordered by the first and then by the second. `pairs.rt` stores the stamps of its pairs
+//! in one, and `partners.rt` the partners of each unit under the stamps of their pairs.
 
 ghost use Rattle.std.specs.Prelude.{◌≡◌, ℕ, Some, None, if◌then◌else◌, OnOk, OnErr, IfOk, IfNone, slice_get};
 ghost use Rattle.std.specs.BTreeMap.{IsOrdered};
@@ -24,7 +24,7 @@ pub(crate) fn put(
     Ok(())
 }
 
-/// Takes what is under a key.
+/// Removes and returns the value under a key.
 pub(crate) fn take(map: &mut BTreeMap<(u64, u64), u64>, key: (u64, u64)) -> Option<u64>
     ensures value { result ≡ value_at map.old key }
     ensures gone { (q : ℕ × ℕ) → value_at map.new q ≡ (if same_pair key q then None else value_at map.old q) }
@@ -33,7 +33,7 @@ pub(crate) fn take(map: &mut BTreeMap<(u64, u64), u64>, key: (u64, u64)) -> Opti
     map.remove(&key)
 }
 
-/// The first value in a number's row, up to a second number.
+/// Returns the first value under keys of a first number whose second number is below `end`.
 pub(crate) fn first(map: &BTreeMap<(u64, u64), u64>, number: u64, end: u64) -> Option<u64>
     ensures value { result ≡ slice_get (row map.now number end) 0 }
     ensures ordered { IsOrdered pair_cmp map.now }
@@ -42,7 +42,7 @@ pub(crate) fn first(map: &BTreeMap<(u64, u64), u64>, number: u64, end: u64) -> O
     Some(*value)
 }
 
-/// The values in a number's row, up to a second number.
+/// Returns the values under keys of a first number whose second number is below `end`, in their order.
 pub(crate) fn list(
     alloc: Global,
     map: &BTreeMap<(u64, u64), u64>,

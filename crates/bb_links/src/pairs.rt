@@ -1,4 +1,4 @@
-//! The pairs of one couple, in order of addition. `couple.rt` changes them and reads them.
+//! The pairs of one couple, in order of addition. `couple.rt` reads and changes them.
 
 ghost use Rattle.std.specs.Prelude.{◌≡◌, ℕ, ◌<◌, ◌+◌, ◌^◌, [], ◌∷◌, ◌++◌, false, OnOk, OnErr, IfOk, SomeIff, slice_get};
 ghost use Rattle.std.specs.Map.{values_of};
@@ -16,13 +16,13 @@ use std::alloc::{AllocError, Global};
 use std::collections::BTreeMap;
 use std::marker::Model;
 
-/// Pairs of units in order of addition, the one at side A first. Each has a stamp, and the stamps rise, so that no
-/// change walks over all pairs.
+/// Pairs of units in order of addition, the unit at side A first. Each has a stamp, and the stamps rise, so no change
+/// scans all pairs.
 #[derive(Drop)]
 pub(crate) struct Pairs {
-    // The stamp that the next pair gets.
+    // The stamp of the next pair.
     next: u64,
-    // The stamp of each pair. Nothing keeps the pairs in order: the view puts them in the order of their stamps.
+    // The stamp of each pair. The map is not in order of addition: the view sorts the pairs by stamp.
     stamps: BTreeMap<(UnitId, UnitId), u64>,
     partners: Partners,
 }
@@ -39,7 +39,7 @@ impl Model for Pairs {
     ghost invariant = { λ p. AreKept p.next p.stamps p.partners };
 }
 
-// The stamp after one. There is none after 2^64 - 1.
+// The stamp after one; `None` after 2^64 - 1.
 fn next_stamp(stamp: u64) -> Option<u64>
     ensures { SomeIff result (stamp + 1 < 2 ^ 64) (stamp + 1) }
 {
@@ -77,7 +77,7 @@ fn listed(
 }
 
 impl Pairs {
-    /// No pairs. It allocates nothing.
+    /// Creates a list without pairs, without allocating.
     pub(crate) fn new(alloc: Global) -> Pairs
         ensures { result ≡ [] }
     {
@@ -88,21 +88,21 @@ impl Pairs {
         }
     }
 
-    /// Whether a pair is there.
+    /// Returns whether a pair exists.
     pub(crate) fn contains(&self, pair: (UnitId, UnitId)) -> bool
         ensures { result ≡ has_pair pair self.now }
     {
         self.stamps.contains_key(&pair)
     }
 
-    /// The first partner of a unit at a side, found without a walk.
+    /// Returns the first partner of a unit at a side, without a scan.
     pub(crate) fn first(&self, side: Side, unit: UnitId) -> Option<UnitId>
         ensures { result ≡ slice_get (partners side unit self.now) 0 }
     {
         self.partners.first(side, unit, self.next)
     }
 
-    /// The partners of a unit at a side, in order of addition.
+    /// Returns the partners of a unit at a side, in order of addition.
     pub(crate) fn partners(
         &self,
         alloc: Global,
@@ -114,15 +114,15 @@ impl Pairs {
         self.partners.list(alloc, side, unit, self.next)
     }
 
-    /// All pairs, in order of addition.
+    /// Returns all pairs, in order of addition.
     pub(crate) fn list(&self, alloc: Global) -> Result<Vec<(UnitId, UnitId)>, Memory>
         ensures { IfOk result (λ list. list.items ≡ self.now) }
     {
         listed(alloc, &by_stamp(alloc, &self.stamps)?)
     }
 
-    /// Appends a pair that is not there. An error changes nothing; it also comes once all stamps are used, as
-    /// `next_stamp` says, after 2^64 - 1 pairs.
+    /// Appends a new pair. An error changes nothing. It is returned if memory runs out, or after 2^64 - 1 pairs, when
+    /// all stamps are used.
     pub(crate) fn push(&mut self, pair: (UnitId, UnitId)) -> Result<(), AllocError>
         requires { has_pair pair self.old ≡ false }
         ensures ok { OnOk result (self.new ≡ self.old ++ pair ∷ []) }
@@ -142,7 +142,7 @@ impl Pairs {
         }
     }
 
-    /// Takes a pair away.
+    /// Removes a pair.
     pub(crate) fn remove(&mut self, pair: (UnitId, UnitId))
         ensures { self.new ≡ without_pair pair self.old }
     {
@@ -151,7 +151,7 @@ impl Pairs {
         }
     }
 
-    /// Takes all pairs of a unit at a side away.
+    /// Removes all pairs of a unit at a side.
     pub(crate) fn cut(&mut self, side: Side, unit: UnitId)
         ensures { self.new ≡ without_at side unit self.old }
     {

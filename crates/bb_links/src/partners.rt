@@ -1,4 +1,4 @@
-//! The partners of each unit at both sides of a couple. `pairs.rt` keeps them beside its pairs.
+//! The partners of each unit at both sides of a couple. `pairs.rt` keeps them next to its pairs.
 
 ghost use Rattle.std.specs.Prelude.{◌≡◌, ℕ, None, OnOk, OnErr, IfOk, slice_get};
 ghost use Rattle.std.specs.BTreeMap.{IsOrdered};
@@ -12,8 +12,8 @@ use bb_schema::{Side, UnitId};
 use std::alloc::{AllocError, Global};
 use std::collections::BTreeMap;
 
-/// For each side of a couple, the partners of each unit there, each under the unit and the stamp of the pair. So none
-/// is looked for in a list.
+/// For each side of a couple, the partners of each unit there, each under the unit and the stamp of the pair. No list
+/// is scanned for a partner.
 #[derive(Drop)]
 pub(crate) struct Partners {
     at_a: BTreeMap<(UnitId, u64), UnitId>,
@@ -21,7 +21,7 @@ pub(crate) struct Partners {
 }
 
 impl Partners {
-    /// No partners. It allocates nothing.
+    /// Creates the maps, without partners and without allocating.
     pub(crate) fn new(alloc: Global) -> Partners
         ensures { (side : At) (key : ℕ × ℕ) → partner_at side result key ≡ None }
     {
@@ -31,7 +31,8 @@ impl Partners {
         }
     }
 
-    /// Puts each unit of a pair under the other and the pair's stamp, which is not used yet. An error changes nothing.
+    /// Stores each unit of a pair under the other and the pair's stamp, which is not used yet. An error changes
+    /// nothing.
     pub(crate) fn put(&mut self, pair: (UnitId, UnitId), stamp: u64) -> Result<(), AllocError>
         requires { (side : At) (n : ℕ) → partner_at side self.old (n, stamp) ≡ None }
         ensures ok { OnOk result (IsPut pair stamp self.old self.new) }
@@ -47,7 +48,7 @@ impl Partners {
         }
     }
 
-    /// Takes each unit of a pair from the other, under the pair's stamp.
+    /// Removes both units of a pair, each under the other and the pair's stamp.
     pub(crate) fn take(&mut self, pair: (UnitId, UnitId), stamp: u64)
         ensures { IsTaken pair stamp self.old self.new }
     {
@@ -55,7 +56,7 @@ impl Partners {
         take(&mut self.at_b, (pair.1, stamp));
     }
 
-    /// The first partner of a unit at a side, under stamps below one.
+    /// Returns the first partner of a unit at a side, under stamps below `end`.
     pub(crate) fn first(&self, side: Side, unit: UnitId, end: u64) -> Option<UnitId>
         ensures value { result ≡ slice_get (listed_at side self.now unit end) 0 }
         ensures ordered { IsOrdered pair_cmp (map_of side self.now) }
@@ -66,7 +67,7 @@ impl Partners {
         }
     }
 
-    /// The partners of a unit at a side under stamps below one, in their order.
+    /// Returns the partners of a unit at a side under stamps below `end`, in order of stamps.
     pub(crate) fn list(
         &self,
         alloc: Global,

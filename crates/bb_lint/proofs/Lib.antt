@@ -2,5 +2,3 @@
 pub mod ListLemmas
 -- tables of the queries that ops name
 pub mod NamedLemmas
-
--- the lists of the classes that spaces admit

@@ -10,5 +10,5 @@ pub mod Warnings
 pub mod Ratings
 -- sources that are triggered without end, or never
 pub mod Triggered
--- what only proofs speak of
+-- what only proofs mention
 pub mod proving

@@ -2,8 +2,8 @@
 use Rattle.std.specs.Prelude.{ℤ, Bool, true, false, not, ◌&&◌, int_lt, List, is_some}
 use Rattle.std.specs.List.{list_any}
 use Rattle.bb_schema.specs.Schema.{Schema, descends}
-use Rattle.bb_code.specs.Op.{Op}
-use Rattle.bb_code.specs.Op.TheVariants as ops
+use Rattle.bb_code.specs.declared.op.Op.{Op}
+use Rattle.bb_code.specs.declared.op.Op.TheVariants as ops
 use Rattle.bb_rules.specs.declared.source.Act.{Act}
 use Rattle.bb_rules.specs.declared.source.Act.TheVariants as acts
 use Rattle.bb_rules.specs.Parts.{Source}
@@ -13,7 +13,7 @@ abbrev pub makes_focus : Schema → Op → Bool
 makes_focus s (ops.New class) = descends s class 0
 makes_focus s _ = false
 
--- the act of a source may create a focus; what a source asks creates nothing
+-- the act of a source may create a focus; its other parts create nothing
 abbrev pub may_make_focus : Schema → Act → Bool
 may_make_focus s (acts.Code c) = list_any (makes_focus s) c.code.ops
 may_make_focus s acts.Native = true
@@ -22,10 +22,10 @@ may_make_focus s acts.Native = true
 abbrev pub any_makes_focus : Schema → List Source → Bool
 any_makes_focus s sources = list_any (λ source. may_make_focus s source.act) sources
 
--- each activation of the source has its rate for a base, which is below the floor
+-- every activation of the source has the source's rate as its base, and this is below the floor
 abbrev pub starts_below : ℤ → Source → Bool
 starts_below floor source = not (is_some source.require) && not (is_some source.retrigger) && int_lt source.rate floor
 
--- each activation of the source stays below the floor, if no source makes a focus
+-- no source may create a focus, so every activation of the source stays below the floor
 abbrev pub stays_below : Bool → ℤ → Source → Bool
 stays_below raised floor source = not raised && starts_below floor source

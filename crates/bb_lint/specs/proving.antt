@@ -1,3 +1,3 @@
--- What only the contracts of private functions speak of.
+-- What only the contracts of private functions mention.
 -- the lists of the classes that spaces admit
 pub mod Admitted

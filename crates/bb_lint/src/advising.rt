@@ -1,4 +1,4 @@
-//! The advice on an input: warnings of its schema and its sources, then what their parts cost.
+//! The advice on an input: warnings about its schema and sources, then what their parts cost.
 
 ghost use Rattle.bb_lint.specs.proving.Admitted.{AreAdmitted};
 
@@ -12,10 +12,8 @@ use crate::triggered::{is_restless, never_rates};
 use bb_basis::{Memory, Names};
 use bb_board::Note;
 use bb_code::Schema;
-use bb_lint_costs::write_costs;
-use bb_lint_events::Possible;
-use bb_lint_parts::{SourceSites, Texts};
-use bb_refusal_excerpt::Section;
+use bb_diag_text::Section;
+use bb_lint_parts::{Possible, SourceSites, Texts, write_costs};
 use bb_rules::Source;
 use std::alloc::Global;
 
@@ -24,15 +22,15 @@ use std::alloc::Global;
 pub struct Accepted<'a> {
     pub schema: &'a Schema,
     pub sources: &'a [Source],
-    /// The section of the sources that are text. They come first, in its order.
+    /// The section of the sources that are text. These come first, in its order.
     pub text: Section<'a>,
-    /// What the first units note, or `None` where they are refused or not known.
+    /// What the initial units note, or `None` if they are refused or unknown.
     pub first: Option<&'a [Note]>,
     /// The floor of a run.
     pub floor: i64,
 }
 
-// What is known of an input before its sources are gone over.
+// What is known of an input before its sources are examined.
 #[derive(Drop)]
 struct Known {
     admitted: Admitted,
@@ -42,11 +40,11 @@ struct Known {
     raised: bool,
 }
 
-/// What is written for people about an input that is accepted, each line ended by a line feed: warnings about what is
-/// certainly a slip, first of names in the schema, then source by source and part by part; and then, if there are
-/// sources, a table of what their parts cost, and what costs by what there is. A warning of a source that is text has
-/// its line and column, and the line of the input with a caret below it, one of bytecode the op. The error is out of
-/// memory.
+/// Returns the advice on an accepted input for people; every line ends in a line feed. First come warnings about
+/// definite mistakes: names in the schema, then source by source and part by part. Then, if there are sources, come a
+/// table of what their parts cost and the costs that depend on what exists. A warning about a source that is text has
+/// its line and column, and the line of the input with a caret below; one about bytecode has the op. `Memory`: memory
+/// ran out.
 pub fn advice(alloc: Global, input: Accepted<'_>) -> Result<String, Memory> {
     let Accepted {
         schema,
@@ -75,7 +73,7 @@ pub fn advice(alloc: Global, input: Accepted<'_>) -> Result<String, Memory> {
     Ok(text)
 }
 
-// Appends the warnings of the codes of a source, part by part.
+// Appends the warnings about the codes of a source, part by part.
 fn write_codes(
     alloc: Global,
     text: &mut String,
@@ -102,7 +100,7 @@ fn write_codes(
     Ok(())
 }
 
-// Appends the warnings of a source as a whole.
+// Appends the warnings about a source as a whole.
 fn write_source(
     text: &mut String,
     schema: &Schema,

@@ -1,4 +1,4 @@
-//! Searches that find nothing. The warnings of a code (warning.rt) ask for them.
+//! Searches that find nothing. The warnings about a code (warning.rt) check for them.
 
 ghost use Rattle.std.specs.Prelude.{◌≡◌, IfOk, filter, length, map};
 ghost use Rattle.std.specs.List.{list_any, range_with_len};
@@ -10,14 +10,14 @@ use bb_basis::Memory;
 use bb_code::{ClassId, Code, Op, Query, Schema, SpaceId};
 use std::alloc::Global;
 
-/// For each space of a schema the classes that it admits, in ascending order. They are listed once, as untrusted codes
-/// may have many queries.
+/// For each space of a schema, the classes that it admits, in ascending order. They are listed once, because untrusted
+/// codes may have many queries.
 #[derive(Drop)]
 pub(crate) struct Admitted {
     lists: Vec<Vec<ClassId>>,
 }
 
-// The classes that a space admits.
+// Lists the classes that a space admits.
 fn admitted_classes(alloc: Global, schema: &Schema, space: SpaceId) -> Result<Vec<ClassId>, Memory>
     ensures { IfOk result (λ v. v.items ≡ admitted_classes schema.now space) }
 {
@@ -27,7 +27,7 @@ fn admitted_classes(alloc: Global, schema: &Schema, space: SpaceId) -> Result<Ve
         .collect(alloc)
 }
 
-// The classes that each space admits, space by space in order.
+// Lists the classes that each space admits, in the order of the spaces.
 fn admitted_by_space(alloc: Global, schema: &Schema) -> Result<Vec<Vec<ClassId>>, Memory>
     ensures { IfOk result (λ lists. AreAdmitted schema.now lists.items) }
 {
@@ -38,7 +38,7 @@ fn admitted_by_space(alloc: Global, schema: &Schema) -> Result<Vec<Vec<ClassId>>
     Ok(lists)
 }
 
-// Whether one of the classes is `class` or below it.
+// Returns whether one of the classes is `class` or below it.
 fn has_below(schema: &Schema, classes: &[ClassId], class: ClassId) -> bool
     ensures { result ≡ list_any (λ c. descends schema.now c class) classes.now }
 {
@@ -46,7 +46,7 @@ fn has_below(schema: &Schema, classes: &[ClassId], class: ClassId) -> bool
 }
 
 impl Admitted {
-    /// The classes that the spaces of a schema admit.
+    /// Lists the classes that the spaces of a schema admit.
     pub(crate) fn of(alloc: Global, schema: &Schema) -> Result<Admitted, Memory>
         ensures { IfOk result (λ admitted. AreAdmitted schema.now admitted.lists.items) }
     {
@@ -54,7 +54,7 @@ impl Admitted {
         Ok(Admitted { lists })
     }
 
-    // Whether a query finds nothing: its space admits neither its class nor one below it.
+    // Returns whether a query finds nothing: its space admits neither its class nor one below it.
     fn is_barren(&self, alloc: Global, schema: &Schema, query: &Query) -> Result<bool, Memory>
         requires { AreAdmitted schema.now self.now.lists.items }
         ensures { IfOk result (λ barren. barren ≡ is_barren schema.now query.now) }
@@ -68,7 +68,7 @@ impl Admitted {
         }
     }
 
-    /// Which queries of a code find nothing.
+    /// Returns, for every query of a code, whether it finds nothing.
     pub(crate) fn barren_queries(
         &self,
         alloc: Global,
@@ -86,7 +86,7 @@ impl Admitted {
     }
 }
 
-/// Whether an op asks a query that finds nothing, by what is known of each query.
+/// Returns whether an op's query finds nothing, given that for every query.
 pub(crate) fn finds_nothing(schema: &Schema, code: &Code, barren: &[bool], op: Op) -> bool
     requires { barren.now ≡ map (is_barren schema.now) code.now.queries }
     ensures { result ≡ finds_nothing schema.now code.now op }

@@ -1,10 +1,10 @@
-//! What people are told of an input that is accepted: warnings about what is certainly a slip, and below them what the
-//! parts of its sources cost. Nothing is refused by it.
+//! Lints for accepted inputs: warnings about definite mistakes, then the cost of each part. Nothing is refused.
 //!
-//! - In: `Accepted`: a schema, sources with the section of their text, what the first units note, and a floor.
+//! - In: `Accepted`: a schema, sources with the section of their text, what the initial units note, and a floor.
 //! - Out: `advice`, the lines.
-//! - Callers rely on: a warning is given only where it is certain, for a run of this very input.
-//! - Family: bb_lint_parts says where something stands, bb_lint_events what can happen, bb_lint_costs what it costs.
+//! - Callers rely on: a warning is given only if it is certain, for a run of this very input.
+//! - Family: bb_lint_parts has locations, the changes that can happen, and costs; bb_diag_text shows pieces of the
+//!   input.
 //! - Cases: `advice`.
 #![tactic(auto)]
 

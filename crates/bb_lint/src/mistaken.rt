@@ -1,29 +1,29 @@
-//! Slips that two ops in a row show: a focus that is set to the name of nothing, and a test of the unit that quiescence
-//! does not give. The sentences on a code (sentence.rt) go through its places.
+//! Mistakes shown by two consecutive ops: a focus set to a name of nothing, and a test of the unit that quiescence does
+//! not have. The sentences on a code (sentence.rt) check each of its ops.
 
 use bb_basis::{Memory, Names};
 use bb_code::{ClassId, Code, Op, Place, Schema, SlotId};
 use bb_rules::{Clause, Source};
 use std::alloc::Global;
 
-// The class of foci, which is the first of each schema.
+// The class of foci, which is the first of every schema.
 const FOCUS: ClassId = 0;
 
-// The local of the unit that an activation is for.
+// The local with the unit of an activation.
 const UNIT: u8 = 0;
 
-/// A slip that an op shows, with the one before it.
+/// A mistake shown by an op and the one before it.
 #[derive(Clone, Copy, Debug, PartialEq, Eq)]
 pub(crate) enum Mistake<'a> {
-    /// A focus is set to a source of this name, and there is none.
+    /// A focus is set to a source of this name, which does not exist.
     NoSource(&'a str),
-    /// A focus is set to an area, which is a class, of this name, and there is none.
+    /// A focus is set to an area, which is a class, of this name, which does not exist.
     NoArea(&'a str),
-    /// The activation's unit is tested, and there is none, since quiescence alone triggers the source.
+    /// The activation's unit is tested, and does not exist, because only quiescence triggers the source.
     NoUnit,
 }
 
-/// The names of sources.
+/// Returns the names of sources.
 pub(crate) fn source_names(alloc: Global, sources: &[Source]) -> Result<Names, Memory> {
     let mut names = Names::new(alloc);
     for source in sources {
@@ -32,7 +32,7 @@ pub(crate) fn source_names(alloc: Global, sources: &[Source]) -> Result<Names, M
     Ok(names)
 }
 
-/// The slip that the op at a place of a source's code shows, where the sources have these names.
+/// Returns the mistake shown by an op of a source's code, if the sources have these names.
 pub(crate) fn mistake_at<'a>(
     schema: &Schema,
     names: &Names,
@@ -51,7 +51,8 @@ pub(crate) fn mistake_at<'a>(
     }
 }
 
-// The slip of setting a slot to a name, where it is one of a focus, and names nothing. The empty name stands for all.
+// Returns the mistake of setting a slot to a name, if the slot belongs to foci and the name is unknown. The empty name
+// means all.
 fn named_by_focus<'a>(
     schema: &Schema,
     names: &Names,

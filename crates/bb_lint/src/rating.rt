@@ -1,4 +1,4 @@
-//! Sources whose activations are never chosen, as long as no unit is a focus. The advice on sources asks for them.
+//! Sources whose activations are never chosen as long as no unit is a focus. Advice on sources checks for them.
 
 ghost use Rattle.std.specs.Prelude.{◌≡◌};
 ghost use Rattle.std.specs.List.{list_any};
@@ -7,10 +7,10 @@ ghost use Rattle.bb_lint.specs.Ratings.{any_makes_focus, makes_focus, may_make_f
 use bb_code::{ClassId, Op, Schema};
 use bb_rules::{Act, Source};
 
-// The class of foci, which is the first of each schema.
+// The class of foci, which is the first of every schema.
 const FOCUS: ClassId = 0;
 
-// Whether an op creates a focus.
+// Returns whether an op creates a focus.
 fn makes_focus(schema: &Schema, op: Op) -> bool
     ensures { result ≡ makes_focus schema.now op }
 {
@@ -20,14 +20,14 @@ fn makes_focus(schema: &Schema, op: Op) -> bool
     }
 }
 
-// Whether one of the ops creates a focus.
+// Returns whether one of the ops creates a focus.
 fn any_op_makes_focus(schema: &Schema, ops: &[Op]) -> bool
     ensures { result ≡ list_any (makes_focus schema.now) ops.now }
 {
     ops.iter().any(|op| makes_focus(schema, *op))
 }
 
-// Whether the act of a source may create a focus.
+// Returns whether the act of a source may create a focus.
 fn may_make_focus(schema: &Schema, act: &Act) -> bool
     ensures { result ≡ may_make_focus schema.now act.now }
 {
@@ -37,7 +37,7 @@ fn may_make_focus(schema: &Schema, act: &Act) -> bool
     }
 }
 
-/// Whether one of the sources may create a focus.
+/// Returns whether one of the sources may create a focus.
 pub(crate) fn any_makes_focus(schema: &Schema, sources: &[Source]) -> bool
     ensures { result ≡ any_makes_focus schema.now sources.now }
 {
@@ -46,7 +46,7 @@ pub(crate) fn any_makes_focus(schema: &Schema, sources: &[Source]) -> bool
         .any(|source| may_make_focus(schema, &source.parts().act))
 }
 
-// Whether each activation of a source has its rate for a base, which is below the floor.
+// Returns whether every activation of a source has the source's rate as its base, and this is below the floor.
 fn starts_below(floor: i64, source: &Source) -> bool
     ensures { result ≡ starts_below floor source.now }
 {
@@ -54,7 +54,8 @@ fn starts_below(floor: i64, source: &Source) -> bool
     parts.require.is_none() && parts.retrigger.is_none() && parts.rate < floor
 }
 
-/// Whether each activation of a source stays below the floor: `raised` says whether a source may create a focus.
+/// Returns whether every activation of a source stays below the floor; `raised` tells whether a source may create a
+/// focus.
 pub(crate) fn stays_below(raised: bool, floor: i64, source: &Source) -> bool
     ensures { result ≡ stays_below raised floor source.now }
 {

@@ -1,7 +1,7 @@
 //! Names of a schema that are reserved words of the language. The advice on an input begins with them.
 
 use bb_basis::Memory;
-use bb_refusal_grammar::{RESERVED, is_reserved};
+use bb_diag_text::{RESERVED, is_reserved};
 use bb_schema::{ClassId, LabelId, LabelSetId, Schema, SpaceId};
 use std::fmt::Write;
 
@@ -13,14 +13,14 @@ fn write_word(text: &mut String, word: &str, called: &str) -> Result<(), Memory>
     )
 }
 
-// The reserved word that is the name of a label set, if one is.
+// Returns the reserved word that is the name of a label set, if it is one.
 fn name_of_set(schema: &Schema, set: LabelSetId) -> Option<&'static str> {
     RESERVED
         .split(' ')
         .find(|word| schema.label_set(word) == Some(set))
 }
 
-// Appends the label sets and labels that have reserved words for names.
+// Appends the label sets and labels whose names are reserved words.
 fn write_labels(text: &mut String, schema: &Schema) -> Result<(), Memory> {
     for set in 0..schema.label_set_count() {
         let number = set as LabelSetId;
@@ -41,7 +41,7 @@ fn write_labels(text: &mut String, schema: &Schema) -> Result<(), Memory> {
     Ok(())
 }
 
-// Appends the classes that have reserved words for names. The first class stands in no document.
+// Appends the classes whose names are reserved words. The first class is in no document.
 fn write_classes(text: &mut String, schema: &Schema) -> Result<(), Memory> {
     for class in 1..schema.class_count() {
         let name = schema.class_name(class as ClassId).unwrap_or("");
@@ -57,7 +57,7 @@ fn write_classes(text: &mut String, schema: &Schema) -> Result<(), Memory> {
     Ok(())
 }
 
-// Appends the spaces and dimensions that have reserved words for names.
+// Appends the spaces and dimensions whose names are reserved words.
 fn write_spaces(text: &mut String, schema: &Schema) -> Result<(), Memory> {
     for space in 0..schema.space_count() {
         let name = schema.space_name(space as SpaceId).unwrap_or("");
@@ -75,8 +75,8 @@ fn write_spaces(text: &mut String, schema: &Schema) -> Result<(), Memory> {
     Ok(())
 }
 
-/// Appends the label sets, labels, classes, spaces and dimensions that no text can name, as their names are reserved
-/// words. A slot may have any word, since it stands behind a `.`.
+/// Appends the label sets, labels, classes, spaces and dimensions that no text can name, because their names are
+/// reserved words. A slot may have any name, since it follows a `.`.
 pub(crate) fn write_reserved(text: &mut String, schema: &Schema) -> Result<(), Memory> {
     write_labels(text, schema)?;
     write_classes(text, schema)?;

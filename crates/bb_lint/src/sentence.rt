@@ -1,4 +1,4 @@
-//! Warnings of the codes of a source as sentences, with the names of the schema. `advice` writes them.
+//! Warnings about the codes of a source as sentences, with the names of the schema. `advice` writes them.
 
 ghost use Rattle.std.specs.Prelude.{◌<◌, length};
 ghost use Rattle.bb_lint.specs.proving.Admitted.{AreAdmitted};
@@ -9,19 +9,18 @@ use crate::vain::held_class;
 use crate::warning::{Warning, code_warnings};
 use bb_basis::{Memory, Names};
 use bb_code::{ClassId, Code, Op, Place, Schema};
-use bb_lint_events::Possible;
-use bb_lint_parts::{OpSites, Site};
+use bb_lint_parts::{OpSites, Possible, Site};
 use bb_rules::Source;
 use bb_verify::Checked;
 use std::alloc::Global;
 use std::fmt::Write;
 
-// The name of a class.
+// Returns the name of a class.
 fn class_name(schema: &Schema, class: ClassId) -> &str {
     schema.class_name(class).unwrap_or("?")
 }
 
-/// A code of a source, with where its ops stand.
+/// A code of a source, with the locations of its ops.
 #[derive(Clone, Copy)]
 pub(crate) struct Part<'a> {
     pub(crate) source: &'a Source,
@@ -30,7 +29,7 @@ pub(crate) struct Part<'a> {
 }
 
 impl<'a> Part<'a> {
-    // Begins a warning of the code, and appends where that stands which it is about.
+    // Begins a warning about the code, and appends where its subject is.
     fn begin(self, text: &mut String, site: Site<'_>) -> Result<(), Memory> {
         let name = self.source.parts().name.as_str();
         let part = self.checked.part().word();
@@ -38,7 +37,7 @@ impl<'a> Part<'a> {
         site.write_place(text)
     }
 
-    // Where the op of a place stands; the part, if the code has no op there.
+    // Returns where an op is; the part, if the code has no op at the index.
     fn site(self, place: Place) -> Site<'a> {
         match self.checked.code().op(place as usize) {
             Some(op) => self.sites.at(place, op),
@@ -47,7 +46,7 @@ impl<'a> Part<'a> {
     }
 }
 
-// Appends that no unit of the known class is one of the class that is tested for.
+// Appends that no unit of the known class can have the class tested for.
 fn write_test(
     text: &mut String,
     schema: &Schema,
@@ -83,7 +82,7 @@ fn write_find(
     text.push_str("so nothing is found")
 }
 
-// Appends a warning of a code.
+// Appends a warning about a code.
 fn write_slip(
     text: &mut String,
     schema: &Schema,
@@ -104,7 +103,7 @@ fn write_slip(
     site.write_end(text)
 }
 
-/// Appends the warnings of a code.
+/// Appends the warnings about a code.
 pub(crate) fn write_code(
     alloc: Global,
     text: &mut String,
@@ -121,7 +120,7 @@ pub(crate) fn write_code(
     Ok(())
 }
 
-// Whether the op of a place searches a space that admits units of its class, but that none of them can enter.
+// Returns whether an op searches a space that admits units of its class but that none of them can enter.
 fn finds_none(schema: &Schema, possible: &Possible, code: &Code, place: Place) -> bool {
     let Some(Op::Find(index)) = code.op(place as usize) else {
         return false;
@@ -158,7 +157,7 @@ pub(crate) fn write_empty_finds(
     Ok(())
 }
 
-// Appends what follows from a slip that two ops show.
+// Appends what follows from a mistake shown by two ops.
 fn write_mistake(text: &mut String, mistake: Mistake<'_>) -> Result<(), Memory> {
     match mistake {
         Mistake::NoSource(name) => {
@@ -179,7 +178,7 @@ fn write_mistake(text: &mut String, mistake: Mistake<'_>) -> Result<(), Memory> 
     }
 }
 
-/// Appends the slips of a code that two ops in a row show, where the sources have these names.
+/// Appends the mistakes of a code that two consecutive ops show, if the sources have these names.
 pub(crate) fn write_mistakes(
     text: &mut String,
     schema: &Schema,

@@ -1,15 +1,14 @@
-//! Warnings of a whole source as sentences: of its rate, of quiescence, of its `require`, and of events that never
-//! come. `advice` writes them.
+//! Warnings about a whole source as sentences: its rate, quiescence, its `require`, and events that never come.
+//! `advice` writes them.
 
 use bb_basis::Memory;
 use bb_board::ChangeKind;
 use bb_code::{ClassId, Schema, SlotId, SpaceId};
-use bb_lint_events::Possible;
-use bb_lint_parts::{Site, SourceSites};
+use bb_lint_parts::{Possible, Site, SourceSites};
 use bb_rules::{Clause, ClauseList, Source};
 use std::fmt::Write;
 
-// Begins a warning of a source, or of one of its parts, and appends where that stands which it is about.
+// Begins a warning about a source or one of its parts, and appends where its subject is.
 fn begin(text: &mut String, source: &Source, part: &str, site: Site<'_>) -> Result<(), Memory> {
     let name = source.parts().name.as_str();
     write!(text, "warning: source {name}{part}")?;
@@ -34,7 +33,7 @@ pub(crate) fn write_rating(
     site.write_end(text)
 }
 
-/// Appends that quiescence triggers a source without end.
+/// Appends that quiescence triggers a source again and again.
 pub(crate) fn write_restless(
     text: &mut String,
     source: &Source,
@@ -63,7 +62,7 @@ pub(crate) fn write_never_rates(
     site.write_end(text)
 }
 
-/// Appends the clauses of a source that name what never happens.
+/// Appends the clauses of a source that name something that never happens.
 pub(crate) fn write_clauses(
     text: &mut String,
     schema: &Schema,
@@ -89,7 +88,7 @@ pub(crate) fn write_clauses(
     Ok(())
 }
 
-// What the sentences on the clauses of a source go by.
+// What the sentences on a source's clauses are written from.
 #[derive(Clone, Copy)]
 struct ClauseSentences<'a> {
     schema: &'a Schema,
@@ -99,7 +98,7 @@ struct ClauseSentences<'a> {
 }
 
 impl ClauseSentences<'_> {
-    // Appends the clauses of a list that name what never happens.
+    // Appends the clauses of a list that name something that never happens.
     fn write_list(
         self,
         text: &mut String,
@@ -122,7 +121,7 @@ impl ClauseSentences<'_> {
     }
 }
 
-// How a list of clauses is named behind the name of a source.
+// Returns how a list of clauses is named after the name of a source.
 fn part_of(list: ClauseList) -> &'static str {
     match list {
         ClauseList::Triggers => "",
@@ -131,7 +130,7 @@ fn part_of(list: ClauseList) -> &'static str {
     }
 }
 
-// What follows of a clause that names what never happens.
+// Returns the consequence of a clause that names something that never happens.
 fn what_follows(list: ClauseList) -> &'static str {
     match list {
         ClauseList::Triggers => "\" about, so it triggers nothing",
@@ -139,12 +138,12 @@ fn what_follows(list: ClauseList) -> &'static str {
     }
 }
 
-// The name of a slot.
+// Returns the name of a slot.
 fn slot_name(schema: &Schema, slot: SlotId) -> &str {
     schema.slot_name(slot).unwrap_or("?")
 }
 
-// The name of a space.
+// Returns the name of a space.
 fn space_name(schema: &Schema, space: SpaceId) -> &str {
     schema.space_name(space).unwrap_or("?")
 }

@@ -1,4 +1,4 @@
-//! Sources that are triggered without end, or never. The advice on sources asks for them.
+//! Sources that are triggered without end, or never. Advice on sources checks for them.
 
 ghost use Rattle.std.specs.Prelude.{◌≡◌};
 ghost use Rattle.std.specs.List.{list_any};
@@ -7,7 +7,7 @@ ghost use Rattle.bb_lint.specs.Triggered.{at_quiescence, is_quiescence, is_ratin
 use bb_code::Op;
 use bb_rules::{Clause, Question, Source};
 
-// Whether a clause names quiescence.
+// Returns whether a clause names quiescence.
 fn is_quiescence(clause: &Clause) -> bool
     ensures { result ≡ is_quiescence clause.now }
 {
@@ -17,7 +17,7 @@ fn is_quiescence(clause: &Clause) -> bool
     }
 }
 
-/// Whether quiescence triggers a source.
+/// Returns whether quiescence triggers a source.
 pub(crate) fn at_quiescence(source: &Source) -> bool
     ensures { result ≡ at_quiescence source.now }
 {
@@ -29,8 +29,8 @@ pub(crate) fn at_quiescence(source: &Source) -> bool
         .any(|clause| is_quiescence(clause))
 }
 
-/// Whether each quiescence gives a source an activation that is chosen, unless foci weigh it down: so it has none that
-/// is the last.
+/// Returns whether every quiescence gives a source an activation that is chosen, unless foci lower its rating. Then no
+/// quiescence is the last.
 pub(crate) fn is_restless(floor: i64, source: &Source) -> bool
     ensures { result ≡ is_restless floor source.now }
 {
@@ -61,7 +61,7 @@ fn rates(question: &Question) -> bool
         .any(|op| is_rating(*op))
 }
 
-/// Whether a source has a `require` without an op that rates, so that no event triggers it.
+/// Returns whether a source has a `require` without an op that rates, so that no event triggers it.
 pub(crate) fn never_rates(source: &Source) -> bool
     ensures { result ≡ never_rates source.now }
 {

@@ -1,4 +1,4 @@
-//! Queries of a code that no op names. The warnings of a code (warning.rt) ask for them.
+//! Queries of a code that no op names. The warnings about a code (warning.rt) check for them.
 
 ghost use Rattle.std.specs.Prelude.{◌≡◌, IfOk, false, length, replicate, true};
 ghost use Rattle.std.specs.Prelude.{slice_set};
@@ -18,7 +18,7 @@ fn none_named(alloc: Global, count: usize) -> Result<Vec<bool>, AllocError>
     Ok(table)
 }
 
-// Marks the query that an op names, if there is one.
+// Marks the query that an op names, if it names one.
 fn mark(table: &mut Vec<bool>, op: Op)
     ensures { table.new.items ≡ with_named table.old.items op }
 {
@@ -31,7 +31,7 @@ fn mark(table: &mut Vec<bool>, op: Op)
     }
 }
 
-// Marks each query that one of the ops names.
+// Marks every query that one of the ops names.
 fn mark_all(table: &mut Vec<bool>, ops: &[Op])
     ensures { table.new.items ≡ all_named table.old.items ops.now }
 {
@@ -40,7 +40,7 @@ fn mark_all(table: &mut Vec<bool>, ops: &[Op])
     }
 }
 
-/// For each query of a code whether an op names it.
+/// Returns, for every query of a code, whether an op names it.
 pub(crate) fn named_queries(alloc: Global, code: &Code) -> Result<Vec<bool>, Memory>
     ensures { IfOk result (λ v. IsTold code.now.ops (length code.now.queries) v.items) }
 {

@@ -1,4 +1,4 @@
-//! Tests for a class that never hold. The warnings of a code (warning.rt) ask for them.
+//! Tests for a class that never hold. The warnings about a code (warning.rt) check for them.
 
 ghost use Rattle.std.specs.Prelude.{◌≡◌, ◌<◌, length};
 ghost use Rattle.bb_lint.specs.Tests.{held_class, is_vain_at, is_vain_test, related, unit_class};
@@ -6,14 +6,14 @@ ghost use Rattle.bb_lint.specs.Tests.{held_class, is_vain_at, is_vain_test, rela
 use bb_code::{ClassId, Kind, Op, Place, Schema};
 use bb_verify::{Checked, Frame};
 
-// Whether one of two classes descends from the other.
+// Returns whether one of two classes descends from the other.
 fn related(schema: &Schema, class: ClassId, other: ClassId) -> bool
     ensures { result ≡ related schema.now class other }
 {
     schema.descends(class, other) || schema.descends(other, class)
 }
 
-// The class of an entry that is a unit.
+// Returns the class of an entry that is a unit.
 fn unit_class(kind: Kind) -> Option<ClassId>
     ensures { result ≡ unit_class kind }
 {
@@ -24,7 +24,7 @@ fn unit_class(kind: Kind) -> Option<ClassId>
     }
 }
 
-/// The class of the newest entry of a frame's stack, if that is a unit.
+/// Returns the class of the newest entry of a frame's stack, if it is a unit.
 pub(crate) fn held_class(frame: Frame) -> Option<ClassId>
     ensures { result ≡ held_class frame }
 {
@@ -35,7 +35,7 @@ pub(crate) fn held_class(frame: Frame) -> Option<ClassId>
     }
 }
 
-// Whether an op tests a unit for a class to which the unit's own is not related.
+// Returns whether an op tests a unit for a class that is not related to the unit's own.
 fn is_vain_test(schema: &Schema, frame: Frame, op: Op) -> bool
     ensures { result ≡ is_vain_test schema.now frame op }
 {
@@ -48,7 +48,7 @@ fn is_vain_test(schema: &Schema, frame: Frame, op: Op) -> bool
     }
 }
 
-/// Whether the op of a place tests a unit for a class to which its own is not related, by the frame of the place.
+/// Returns whether the op at an index tests a unit for a class that is not related to its own, by the frame there.
 pub(crate) fn is_vain_at(schema: &Schema, checked: &Checked, place: Place, op: Op) -> bool
     requires { place < length checked.now.code.ops }
     ensures { result ≡ is_vain_at schema.now checked.now place op }

@@ -1,4 +1,4 @@
-//! What is certainly a slip in a code that is accepted. The sentences on a source (sentence.rt) go through the list.
+//! Definite mistakes in an accepted code. The sentences on a code (sentence.rt) print the list.
 
 ghost use Rattle.std.specs.Prelude.{◌≡◌, ◌++◌, IfOk, OnOk, length, map};
 ghost use Rattle.bb_lint.specs.Finds.{is_barren};
@@ -14,18 +14,18 @@ use bb_code::{Code, Place, Schema};
 use bb_verify::Checked;
 use std::alloc::Global;
 
-/// A slip in a code.
+/// A mistake in a code.
 #[derive(Clone, Copy, Debug, PartialEq, Eq)]
 pub(crate) enum Warning {
-    /// The test of the op at this place never holds.
+    /// The test of this op never holds.
     Test(Place),
-    /// The search of the op at this place finds nothing.
+    /// The search of this op finds nothing.
     Find(Place),
-    /// No op names the query of this index.
+    /// No op names the query with this index.
     Unused(u16),
 }
 
-// The warning of a place, if there is one: `barren` says of each query whether it finds nothing.
+// Returns the warning of an op, if there is one; `barren` tells of every query whether it finds nothing.
 fn warning_at(schema: &Schema, checked: &Checked, barren: &[bool], place: Place) -> Option<Warning>
     requires { barren.now ≡ map (is_barren schema.now) checked.now.code.queries }
     ensures { result ≡ warning_at schema.now checked.now place }
@@ -41,7 +41,7 @@ fn warning_at(schema: &Schema, checked: &Checked, barren: &[bool], place: Place)
     None
 }
 
-// Appends the warnings of the ops, place by place.
+// Appends the warnings about the ops, in order.
 fn warn_of_ops(
     warnings: &mut Vec<Warning>,
     schema: &Schema,
@@ -61,7 +61,7 @@ fn warn_of_ops(
     Ok(())
 }
 
-// Appends the warnings of the queries: `named` says of each whether an op names it.
+// Appends the warnings about the queries; `named` tells of every query whether an op names it.
 fn warn_of_queries(warnings: &mut Vec<Warning>, code: &Code, named: &[bool]) -> Result<(), Memory>
     requires { IsTold code.now.ops (length code.now.queries) named.now }
     ensures { OnOk result (warnings.new.items ≡ warnings.old.items ++ query_warnings code.now) }
@@ -76,7 +76,7 @@ fn warn_of_queries(warnings: &mut Vec<Warning>, code: &Code, named: &[bool]) -> 
     Ok(())
 }
 
-/// The warnings of a code: those of its ops, place by place, then those of its queries.
+/// Returns the warnings about a code: first those of its ops, in order, then those of its queries.
 pub(crate) fn code_warnings(
     alloc: Global,
     schema: &Schema,

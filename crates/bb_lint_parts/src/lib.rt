@@ -1,22 +1,33 @@
-//! The parts of a source that was accepted, for warnings and costs: where in the text of sources an op, a clause or a
-//! part stands.
+//! The pieces of advice on accepted sources: where an op, clause or part is, which changes a run can have, and what
+//! parts cost.
 //!
-//! - In: sources, and the section of their text.
-//! - Out: a `Site` for each op, clause and part, which writes where that is.
-//! - Callers rely on: the compiler keeps no places, so they are read off the tokens once more. A site in a text is that
-//!   of the statement whose op is asked for, or else the word of its part; bytecode has the op itself.
-//! - Family: bb_lint_events, bb_lint_costs and bb_lint write lines with these. bb_refusal_grammar has the tokens.
+//! - In: a schema, sources with the section of their text, and the notes of the initial units.
+//! - Out: a `Site` for each op, clause and part, which writes where that is; `Possible`, which tells whether a run can
+//!   have a kind of change for a class; `write_costs`, which appends a table of costs, and a line for each cost that no
+//!   budget shows.
+//! - Callers rely on: what is not possible happens in no run of these sources from these initial units; what is
+//!   possible may still never happen. The compiler keeps no locations, so they are read from the tokens again: a site
+//!   in a text is that of the statement with the op, or else the word of its part; a site in bytecode is the op.
+//! - Family: bb_lint writes warnings from these; bb_diag_text has the tokens.
 //! - Cases: `advice`.
 #![tactic(auto)]
 
+mod adding;
+mod cost_notes;
+mod costs;
+mod existence;
 mod op_sites;
 mod outline;
 mod outlining;
+mod possible;
 mod site;
 mod source_sites;
 mod spot;
+mod widths;
 
+pub use costs::write_costs;
 pub use op_sites::OpSites;
+pub use possible::Possible;
 pub use site::{Origin, Site};
 pub use source_sites::{SourceSites, Texts};
 pub use spot::Spot;

@@ -1,9 +1,9 @@
-//! Where in the text of a part each op of its code stands that a search, a test of a unit or a `set` makes. Warnings
-//! and costs ask for it op by op.
+//! The locations of ops in the text of a part: of those that a search, a test of a unit or a `set` compiles to.
+//! Warnings and costs look up ops one by one.
 //!
-//! The compiler lays out ops in the order of the text: a search is the query of its number, each `with .. as` begins
-//! one test, and each `set` makes one `Set`. So the places of one sort are those of its ops in order, and they are only
-//! taken where there are as many of the one as of the other.
+//! The compiler emits ops in the order of the text: each search is the query with its number, each `with .. as` begins
+//! one test, and each `set` becomes one `Set`. The locations of each sort therefore match its ops in order. They are
+//! used only if there are as many locations as ops.
 
 use crate::outline::PartOutline;
 use crate::site::{Origin, Site};
@@ -12,16 +12,16 @@ use bb_basis::Memory;
 use bb_code::{Code, Op, Place};
 use std::alloc::Global;
 
-/// Where the ops of a code stand.
+/// Where the ops of a code are.
 #[derive(Drop)]
 pub struct OpSites<'a> {
-    // The text and the word of the part, if the code was compiled from a text.
+    // The text, and the word of the part, if the code was compiled from a text.
     part: Option<(Origin<'a>, Spot)>,
-    // For each op its place in the text, if that is known.
+    // The location of each op in the text, if known.
     spots: Vec<Option<Spot>>,
 }
 
-// How many tests and `Set`s there are among the ops so far.
+// The number of tests and `Set`s among the ops so far.
 #[derive(Clone, Copy)]
 struct Passed {
     tests: usize,
@@ -38,7 +38,7 @@ impl Passed {
         }
     }
 
-    // Goes over an op. A test is an `Alive`, an `As`, or both, one right behind the other.
+    // Takes an op. A test is an `Alive`, an `As`, or an `Alive` directly followed by an `As`.
     fn step(&mut self, op: Op) {
         match op {
             Op::Alive(_) => self.tests = self.tests.saturating_add(1),
@@ -49,7 +49,7 @@ impl Passed {
         self.is_alive = matches!(op, Op::Alive(_));
     }
 
-    // How many there are among all of the ops.
+    // Counts those among all of the ops.
     fn over(ops: &[Op]) -> Passed {
         let mut passed = Passed::none();
         for op in ops {
@@ -59,17 +59,17 @@ impl Passed {
     }
 }
 
-// The places, if there are as many as there should be.
+// Returns the locations if there are `count` of them, else none.
 fn if_all(spots: &[Spot], count: usize) -> &[Spot] {
     if spots.len() == count { spots } else { &[] }
 }
 
-// The place of the last of so many.
+// Returns the location of the last of the first `count`.
 fn last_of(spots: &[Spot], count: usize) -> Option<Spot> {
     spots.get(count.checked_sub(1)?).copied()
 }
 
-// For each op of a code its place in the text of its part, if that is known.
+// Returns the location of every op of a code in the text of its part, if known.
 fn spots_of(
     alloc: Global,
     part: &PartOutline<'_>,
@@ -95,7 +95,7 @@ fn spots_of(
 }
 
 impl<'a> OpSites<'a> {
-    /// The ops of a code that came as bytecode.
+    /// Makes the sites of a code that came as bytecode.
     pub(crate) fn of_bytecode(alloc: Global) -> OpSites<'a> {
         OpSites {
             part: None,
@@ -103,7 +103,7 @@ impl<'a> OpSites<'a> {
         }
     }
 
-    /// The ops of the code of a part.
+    /// Makes the sites of the code of a part with a text.
     pub(crate) fn of_text(
         alloc: Global,
         origin: Origin<'a>,
@@ -116,7 +116,7 @@ impl<'a> OpSites<'a> {
         })
     }
 
-    /// Where an op stands: what makes it, if that is known, or else its part.
+    /// Returns where an op is: the statement that makes it, if known, else its part.
     pub fn at(&self, place: Place, op: Op) -> Site<'a> {
         match self.part {
             None => Site::Op { place, op },
@@ -130,7 +130,7 @@ impl<'a> OpSites<'a> {
         }
     }
 
-    /// Where the part stands.
+    /// Returns where the part is.
     pub fn part(&self) -> Site<'a> {
         match self.part {
             None => Site::Bytecode,

@@ -1,11 +1,11 @@
-//! What is noted of a source's text: where its clauses and its parts stand, and in each part what makes the ops that
-//! advice speaks of. The walk (outlining.rt) makes outlines, and sites are read off them.
+//! What is recorded of a source's text: where its clauses and parts are and, in every part, what makes the ops that
+//! advice mentions. The walk (outlining.rt) makes outlines, and sites are read from them.
 
 use crate::spot::Spot;
 use bb_rules::ClauseList;
 use std::alloc::Global;
 
-/// Where the pieces of a source stand.
+/// Where the pieces of a source are.
 #[derive(Drop)]
 pub(crate) struct Outline<'a> {
     /// The word `rate` of its head.
@@ -16,13 +16,13 @@ pub(crate) struct Outline<'a> {
     pub(crate) parts: Vec<PartOutline<'a>>,
 }
 
-/// Where the pieces of a part stand.
+/// Where the pieces of a part are.
 #[derive(Drop)]
 pub(crate) struct PartOutline<'a> {
-    /// The word of the part, and where it stands.
+    /// The word of the part, and where it is.
     pub(crate) word: &'a str,
     pub(crate) spot: Spot,
-    /// Each `find`, in the order in which searches are made: one that stands in a test of another comes before it.
+    /// Each `find`, in the order of the searches: one inside a test of another comes before that one.
     pub(crate) finds: Vec<Spot>,
     /// The unit of each `with n = u as C`.
     pub(crate) tests: Vec<Spot>,
@@ -31,7 +31,7 @@ pub(crate) struct PartOutline<'a> {
 }
 
 impl<'a> Outline<'a> {
-    /// Of a source of which nothing was noted so far.
+    /// Makes the outline of a source of which nothing is recorded yet.
     pub(crate) fn new(alloc: Global) -> Outline<'a> {
         Outline {
             rate: None,
@@ -42,7 +42,7 @@ impl<'a> Outline<'a> {
         }
     }
 
-    /// Where the clauses of a list begin.
+    /// Returns where the clauses of a list begin.
     pub(crate) fn clauses(&self, list: ClauseList) -> &[Spot] {
         match list {
             ClauseList::Triggers => self.triggers.as_slice(),
@@ -51,7 +51,7 @@ impl<'a> Outline<'a> {
         }
     }
 
-    /// As `clauses`, to add one.
+    /// Returns the same list as `clauses`, to add to it.
     pub(crate) fn clauses_mut(&mut self, list: ClauseList) -> &mut Vec<Spot> {
         match list {
             ClauseList::Triggers => &mut self.triggers,
@@ -60,14 +60,14 @@ impl<'a> Outline<'a> {
         }
     }
 
-    /// The part of a word, if the source has it.
+    /// Returns the part with a word, if the source has it.
     pub(crate) fn part(&self, word: &str) -> Option<&PartOutline<'a>> {
         self.parts.iter().find(|part| part.word == word)
     }
 }
 
 impl<'a> PartOutline<'a> {
-    /// Of a part that begins with a word.
+    /// Makes the outline of a part that begins with a word.
     pub(crate) fn new(alloc: Global, word: &'a str, spot: Spot) -> PartOutline<'a> {
         PartOutline {
             word,

@@ -1,42 +1,42 @@
-//! The walk over the tokens of a source that was accepted, which notes where its pieces stand. `Texts` calls `outline`.
+//! The walk over the tokens of an accepted source, which records where its pieces are. `Texts` calls `outline`.
 //!
-//! Reserved words are no names but behind a `.`, so each tells what it begins.
+//! Reserved words are names only after a `.`, so everywhere else a reserved word shows what it begins.
 
 use crate::outline::{Outline, PartOutline};
 use crate::spot::Spot;
 use bb_basis::Memory;
-use bb_refusal_grammar::{ListedSource, Token};
+use bb_diag_text::{ListedSource, Token};
 use bb_rules::ClauseList;
 use std::alloc::Global;
 
-// How far a `set` was read.
+// How much of a `set` was read.
 #[derive(Clone, Copy, Debug, PartialEq, Eq)]
 enum Setting {
     No,
-    // Its word came.
+    // Its word was read.
     Begun,
-    // Its `=` came, and the value is next.
+    // Its `=` was read, and the value is next.
     Due,
 }
 
-// How far a source was walked over.
+// The state of the walk.
 #[derive(Drop)]
 struct Walk<'a> {
     alloc: Global,
     outline: Outline<'a>,
-    // The clauses that come here.
+    // The list that clauses belong to here.
     list: ClauseList,
-    // How many braces are open.
+    // The number of open braces.
     depth: usize,
-    // For each round and square bracket that is open the `find` that begins in it.
+    // For each open round or square bracket, the `find` that begins in it.
     brackets: Vec<Option<Spot>>,
-    // The `find` that a `for` goes over, until its block begins.
+    // The `find` of a `for`, until the block begins.
     looped: Option<Spot>,
     setting: Setting,
     before: Token<'a>,
 }
 
-/// Where the pieces of a source stand.
+/// Returns where the pieces of a source are.
 pub(crate) fn outline<'a>(alloc: Global, source: &ListedSource<'a>) -> Result<Outline<'a>, Memory> {
     let mut walk = Walk {
         alloc,
@@ -60,7 +60,7 @@ pub(crate) fn outline<'a>(alloc: Global, source: &ListedSource<'a>) -> Result<Ou
 }
 
 impl<'a> Walk<'a> {
-    // Goes over a token.
+    // Takes a token.
     fn step(&mut self, token: Token<'a>) -> Result<(), Memory> {
         if self.before.is(".") {
             return Ok(());
@@ -80,7 +80,7 @@ impl<'a> Walk<'a> {
         }
     }
 
-    // Goes over a bracket. A search is made where it ends: before the block of its `for`, or with its `size(..)`.
+    // Takes a bracket. A search is made where it ends: before the block of its `for`, or at the end of its `size(..)`.
     fn bracket(&mut self, token: Token<'a>) -> Result<(), Memory> {
         match token.text {
             "{" => {
@@ -103,7 +103,7 @@ impl<'a> Walk<'a> {
         }
     }
 
-    // Goes over a word that stands between the parts of the source.
+    // Takes a word between the parts of the source.
     fn outer_word(&mut self, token: Token<'a>) -> Result<(), Memory> {
         let spot = Spot::of(token);
         match token.text {
@@ -134,7 +134,7 @@ impl<'a> Walk<'a> {
         Ok(())
     }
 
-    // Goes over a word of a part.
+    // Takes a word of a part.
     fn inner_word(&mut self, token: Token<'a>) -> Result<(), Memory> {
         match token.text {
             "find" => self.begin_find(Spot::of(token)),
@@ -147,7 +147,7 @@ impl<'a> Walk<'a> {
         }
     }
 
-    // Begins a search: one in a bracket is that of a `size`.
+    // Begins a search: one in a bracket belongs to a `size`.
     fn begin_find(&mut self, spot: Spot) -> Result<(), Memory> {
         if !self.before.is("(") {
             self.looped = Some(spot);
@@ -159,7 +159,7 @@ impl<'a> Walk<'a> {
         Ok(())
     }
 
-    // Notes a search that was made.
+    // Records a search that was made.
     fn note_find(&mut self, spot: Option<Spot>) -> Result<(), Memory> {
         if let (Some(part), Some(spot)) = (self.outline.parts.last_mut(), spot) {
             part.finds.push(spot)?;
@@ -167,7 +167,7 @@ impl<'a> Walk<'a> {
         Ok(())
     }
 
-    // Notes the unit of a test.
+    // Records the unit of a test.
     fn note_test(&mut self, spot: Spot) -> Result<(), Memory> {
         if let Some(part) = self.outline.parts.last_mut() {
             part.tests.push(spot)?;
@@ -175,7 +175,7 @@ impl<'a> Walk<'a> {
         Ok(())
     }
 
-    // Notes the value of a `set`.
+    // Records the value of a `set`.
     fn note_set(&mut self, spot: Spot) -> Result<(), Memory> {
         if let Some(part) = self.outline.parts.last_mut() {
             part.sets.push(spot)?;

@@ -1,33 +1,32 @@
-//! Where that stands which a line of advice is about, and how a line says so. Warnings (bb_lint) and costs
-//! (bb_lint_costs) are written with sites.
+//! Where the subject of a line of advice is, and how the line shows that. Warnings (bb_lint) and the lines on costs use
+//! sites.
 
 use crate::spot::Spot;
 use bb_basis::Memory;
-use bb_code::{Op, Place};
-use bb_code_text::write_op;
-use bb_refusal_excerpt::{begin_line, write_excerpt_at};
+use bb_code::{Op, Place, write_op};
+use bb_diag_text::{begin_line, write_excerpt_at};
 use std::fmt::Write;
 
-/// A text of sources, and how many lines of the input stand before it, where that is known.
+/// A text of sources, and the number of lines of the input before it, if known.
 #[derive(Clone, Copy, Debug)]
 pub struct Origin<'a> {
     pub text: &'a str,
     pub lines_before: Option<u64>,
 }
 
-/// Where something of a source stands.
+/// Where something of a source is.
 #[derive(Clone, Copy, Debug)]
 pub enum Site<'a> {
-    /// At a place of the text of sources.
+    /// At a location of the text of sources.
     Text { origin: Origin<'a>, spot: Spot },
     /// At an op of a code that came as bytecode.
     Op { place: Place, op: Op },
-    /// In a source or a part that came as bytecode, at no op.
+    /// In a source or part that came as bytecode, at no op.
     Bytecode,
 }
 
 impl Site<'_> {
-    /// Appends the place, and a colon: behind the names of a source and its part, and before what there is to say.
+    /// Appends the location and a colon: after the names of a source and its part, and before the message.
     pub fn write_place(self, text: &mut String) -> Result<(), Memory> {
         match self {
             Site::Text { spot, .. } => {
@@ -39,7 +38,7 @@ impl Site<'_> {
         }
     }
 
-    /// As `write_place`, with the line of the input, for what shows no text below it.
+    /// Appends the same as `write_place`, with the line of the input, for lines that show no text below.
     pub fn write_place_in_line(self, text: &mut String) -> Result<(), Memory> {
         let Site::Text { origin, spot } = self else {
             return self.write_place(text);
@@ -52,7 +51,7 @@ impl Site<'_> {
         text.push_str(": ")
     }
 
-    /// Ends what was said of a place: below it stand the line of the input, and that line of the text with a caret.
+    /// Ends a message: below it are the line of the input, and that line of the text with a caret.
     pub fn write_end(self, text: &mut String) -> Result<(), Memory> {
         if let Site::Text { origin, spot } = self {
             if let Some(before) = origin.lines_before {
@@ -69,7 +68,7 @@ impl Site<'_> {
     }
 }
 
-// Appends the op of a place.
+// Appends an op and its index.
 fn write_op_place(text: &mut String, place: Place, op: Op) -> Result<(), Memory> {
     write!(text, ", op {place} \"")?;
     write_op(text, op)?;

@@ -1,4 +1,4 @@
-//! Where the pieces of sources stand: in the text of sources, or in none. The advice on sources goes through them.
+//! Where the pieces of sources are: in the text of sources, or in bytecode. Advice looks them up here.
 
 use crate::op_sites::OpSites;
 use crate::outline::Outline;
@@ -6,8 +6,7 @@ use crate::outlining::outline;
 use crate::site::{Origin, Site};
 use crate::spot::Spot;
 use bb_basis::Memory;
-use bb_refusal_excerpt::Section;
-use bb_refusal_grammar::{ListedSource, list_sources};
+use bb_diag_text::{ListedSource, Section, list_sources};
 use bb_rules::{ClauseList, Source};
 use bb_verify::Checked;
 use std::alloc::Global;
@@ -19,15 +18,15 @@ pub struct Texts<'a> {
     listed: Vec<ListedSource<'a>>,
 }
 
-/// Where the pieces of a source stand.
+/// Where the pieces of a source are.
 #[derive(Drop)]
 pub struct SourceSites<'a> {
-    // The text, and what is noted of it, if the source is one of the text.
+    // The text and its outline, if the source belongs to the text.
     text: Option<(Origin<'a>, Outline<'a>)>,
 }
 
 impl<'a> Texts<'a> {
-    /// The sources of a section.
+    /// Lists the sources of a section.
     pub fn of(alloc: Global, section: Section<'a>) -> Result<Texts<'a>, Memory> {
         Ok(Texts {
             origin: Origin {
@@ -38,7 +37,7 @@ impl<'a> Texts<'a> {
         })
     }
 
-    /// Where the pieces of a source of an index stand. The sources of a text come first, in its order.
+    /// Returns where the pieces of the source at an index are. The sources of the text come first, in its order.
     pub fn sites(
         &self,
         alloc: Global,
@@ -56,7 +55,7 @@ impl<'a> Texts<'a> {
 }
 
 impl<'a> SourceSites<'a> {
-    // A place of the text, if there is one.
+    // Returns a site in the text, if there is one.
     fn site(&self, spot: Option<Spot>) -> Site<'a> {
         match (&self.text, spot) {
             (Some((origin, _)), Some(spot)) => Site::Text {
@@ -67,7 +66,7 @@ impl<'a> SourceSites<'a> {
         }
     }
 
-    /// The word `rate` of the source's head.
+    /// Returns the word `rate` of the source's head.
     pub fn rate(&self) -> Site<'a> {
         match &self.text {
             Some((_, outline)) => self.site(outline.rate),
@@ -75,7 +74,7 @@ impl<'a> SourceSites<'a> {
         }
     }
 
-    /// The clause of an index in a list.
+    /// Returns the clause at an index of a list.
     pub fn clause(&self, list: ClauseList, index: usize) -> Site<'a> {
         match &self.text {
             Some((_, outline)) => self.site(outline.clauses(list).get(index).copied()),
@@ -83,7 +82,7 @@ impl<'a> SourceSites<'a> {
         }
     }
 
-    /// The part of a word.
+    /// Returns the part with a word.
     pub fn part(&self, word: &str) -> Site<'a> {
         match &self.text {
             Some((_, outline)) => self.site(outline.part(word).map(|part| part.spot)),
@@ -91,7 +90,7 @@ impl<'a> SourceSites<'a> {
         }
     }
 
-    /// The ops of a code of the source.
+    /// Returns the ops of a code of the source.
     pub fn ops(&self, alloc: Global, checked: &Checked) -> Result<OpSites<'a>, Memory> {
         let Some((origin, outline)) = &self.text else {
             return Ok(OpSites::of_bytecode(alloc));

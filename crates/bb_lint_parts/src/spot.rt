@@ -1,8 +1,8 @@
-//! A place of a text of sources. Outlines have them for what they found, and sites write them.
+//! A location in a text of sources. Outlines record these, and sites write them.
 
-use bb_refusal_grammar::Token;
+use bb_diag_text::Token;
 
-/// Where a token begins: line and column count from 1, and `start` bytes stand before it.
+/// Where a token begins: line and column, from 1, and the number of bytes before it.
 #[derive(Clone, Copy, Debug)]
 pub struct Spot {
     pub line: u64,
@@ -11,7 +11,7 @@ pub struct Spot {
 }
 
 impl Spot {
-    /// Where a token begins.
+    /// Returns where a token begins.
     pub fn of(token: Token<'_>) -> Spot {
         Spot {
             line: token.line,

@@ -12,7 +12,8 @@ abbrev pub name_of : Trade → List ℕ
 name_of Tally = codes "tally"
 name_of Reaper = codes "reaper"
 
--- what a native asks for a unit at the execution of this number: `tally` sets its `count` to that, `reaper` deletes it
+-- the asks of a native for a unit at execution number `count`: `tally` sets its `count` to that number, `reaper`
+-- deletes it
 abbrev pub asks_by : Trade → (unit : ℕ) → (count : ℤ) → List Ask
 asks_by Tally unit count = Set unit (codes "count") (values.Int count) ∷ []
 asks_by Reaper unit count = Delete unit ∷ []
@@ -21,7 +22,7 @@ asks_by Reaper unit count = Delete unit ∷ []
 abbrev pub count_in : List ℤ → ℤ
 count_in held = slice_index_or held 0 (pos 0)
 
--- the number with one more, up to the greatest
+-- the number plus one, up to the maximum
 abbrev pub counted : List ℤ → ℤ
 counted held = saturate_signed w64 (count_in held +ℤ pos 1)
 

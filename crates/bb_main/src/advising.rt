@@ -1,14 +1,14 @@
-//! What there is to say of an input that was checked. The check (serving.rt) has it said beside its lines.
+//! The advice on a checked input. The check (serving.rt) returns it besides writing its lines.
 
 use crate::refusing::input_of;
+use bb_diag::{FirstUnits, read_first_units};
 use bb_lint::{Accepted, advice};
 use bb_main_input::Sections;
-use bb_refusal_report::{FirstUnits, read_first_units};
 use bb_shell::{Check, Memory};
 use std::alloc::Global;
 use std::fmt::Write;
 
-/// That the first units of an input would be refused, if they would, and the advice on its schema and its sources.
+/// Returns the advice on an input's schema and sources, after a warning if its initial units would be refused.
 pub(crate) fn advice_on<'a>(
     alloc: Global,
     checked: &'a Check,

@@ -1,5 +1,4 @@
-//! An input is run for the units that it leaves: their document is written, in a line. What serves an input (serving.rt)
-//! comes here in the mode `units`.
+//! Runs an input and writes the document of the units it leaves, in a line. serving.rt calls this in the mode `units`.
 
 ghost use Rattle.std.specs.Prelude.{◌≡◌, ◌≢◌, ◌==◌, ◌⊎◌, true, false, map, IsNone};
 ghost use Rattle.bb_shell.specs.Fitting.{native_names};
@@ -16,7 +15,7 @@ use bb_main_options::Options;
 use bb_shell::{InputFault, NativeSource, Out, Texts, units_texts};
 use std::alloc::Global;
 
-/// Runs an input of these sections, and writes the units that are left.
+/// Runs an input with these sections, and writes the units that are left.
 pub(crate) fn units_sections<N: NativeSource, O: Out>(
     alloc: Global,
     options: Options,

@@ -1,13 +1,14 @@
 //! The program of the shell, from the bytes of its input to the bytes of its answer.
 //!
 //! - In: options, a reader, a writer, and a writer for messages.
-//! - Out: `program` and `serve`, the exit status, after a trace, a check, a bundle, a document of units or a refusal was
-//!   written.
-//! - Callers rely on: the answer is that of bb_shell on the sections of the input; an input past `INPUT_LIMIT` is
-//!   refused; and whatever happens, each native is closed.
-//! - Family: bb_main_options has the command line, bb_main_input the reading and the cutting of an input; `bb` is the
-//!   program, bb_c the library for C.
-//! - Cases: `program`, `units_left`, `outputs`, `sentences`, `advice`, `limits`; tests in bb_main_tests and bb_shell_tests.
+//! - Out: `program` and `serve`, which write a trace, a check, a bundle, a document of units or a refusal, and return
+//!   the exit status.
+//! - Callers rely on: the answer is the one of bb_shell to the sections of the input; an input longer than
+//!   `INPUT_LIMIT` is refused; every native is closed, whatever happens.
+//! - Family: bb_main_options has the command line, bb_main_input reads and cuts the input; `bb` is the program, bb_c
+//!   the library for C.
+//! - Cases: `program`, `units_left`, `outputs`, `sentences`, `advice`, `limits`; tests in bb_main_tests and
+//!   bb_shell_tests.
 #![tactic(auto)]
 
 mod advising;

@@ -1,4 +1,4 @@
-//! The natives of the program: `tally` and `reaper`. `program` hands them in.
+//! The natives of the program, `tally` and `reaper`. `program` hands them in.
 
 ghost use Rattle.std.specs.Prelude.{◌≡◌, pos, true, map, IfOk};
 ghost use Rattle.bb_main.specs.Natives.{asks_by, name_of, program_natives};
@@ -6,7 +6,7 @@ ghost use Rattle.bb_main.specs.Natives.{asks_by, name_of, program_natives};
 use bb_shell::{Ask, Memory, NativeSource, Text, UnitId, Value, View};
 use std::alloc::Global;
 
-/// Which of the natives of the program a native is.
+/// The natives that the program has.
 #[derive(Clone, Copy, Debug, PartialEq, Eq)]
 pub enum Trade {
     /// `tally` sets the slot `count` of its unit to the number of its executions, this one included.
@@ -45,7 +45,7 @@ impl NativeSource for ProgramNative {
     }
 }
 
-// The name of a native.
+// Returns the name of a native.
 fn name_of(trade: Trade) -> &'static str
     ensures { result.now ≡ name_of trade }
 {
@@ -55,7 +55,7 @@ fn name_of(trade: Trade) -> &'static str
     }
 }
 
-// What a native asks for a unit at an execution of this number.
+// Returns the asks of a native for a unit at execution number `count`.
 fn asks_by(alloc: Global, trade: Trade, unit: UnitId, count: i64) -> Result<Vec<Ask>, Memory>
     ensures { IfOk result (λ asks. asks.items ≡ asks_by trade unit count) }
 {
@@ -71,7 +71,7 @@ fn asks_by(alloc: Global, trade: Trade, unit: UnitId, count: i64) -> Result<Vec<
     Ok(asks)
 }
 
-// A native that was not called yet.
+// Returns a native that was not called yet.
 fn idle(trade: Trade) -> ProgramNative
     ensures { result ≡ record { trade = trade; count = pos 0; is_open = true } }
 {
@@ -82,7 +82,7 @@ fn idle(trade: Trade) -> ProgramNative
     }
 }
 
-/// The natives of the program, none of which was called yet.
+/// Returns the natives of the program, none of which was called yet. `Memory`: memory ran out.
 pub fn program_natives(alloc: Global) -> Result<Vec<ProgramNative>, Memory>
     ensures { IfOk result (λ natives. map ⟦<ProgramNative as NativeSource>⟧.meaning natives.items ≡ program_natives) }
 {

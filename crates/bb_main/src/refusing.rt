@@ -1,5 +1,5 @@
-//! The refusal of an input: its line is written, and the report on it is returned. What serves an input (serving.rt)
-//! ends with these.
+//! Refuses an input: writes its line, and returns the report. serving.rt and leaving.rt end with these functions if the
+//! input is refused.
 
 ghost use Rattle.std.specs.Prelude.{◌≡◌, ◌≢◌, ◌==◌, ◌⊎◌, true, false, map, IsNone};
 ghost use Rattle.bb_shell.specs.Roster.{all_open};
@@ -9,14 +9,14 @@ ghost use Rattle.bb_main.specs.declared.serving.TheConstants.{REFUSED, WRITE};
 
 use crate::served::Served;
 use crate::serving::{MEMORY, REFUSED, WRITE};
+use bb_diag::{Input, report};
 use bb_main_input::Sections;
-use bb_refusal_report::{Input, report};
 use bb_shell::{InputFault, NativeSource, Out, close_each, put_all};
 use std::alloc::Global;
 use std::fmt::Display;
 
-/// Writes the line by which the sections of an input are refused, and then makes a text of the reason. If memory for
-/// the notes runs out, the text is the sentence alone.
+/// Writes the line that refuses the sections of an input, and then makes the report. If memory for the notes runs out,
+/// the report is only the sentence.
 pub(crate) fn refuse<O: Out>(
     alloc: Global,
     fault: &InputFault,
@@ -44,7 +44,7 @@ pub(crate) fn refuse<O: Out>(
     }
 }
 
-// The reason of a refusal: the sentence and the notes, or the sentence alone, or nothing, as memory allows.
+// Returns the reason of a refusal: the sentence and the notes, or only the sentence, or nothing, as memory allows.
 fn reason(alloc: Global, fault: &InputFault, sections: Sections<'_>) -> Option<String> {
     match report(alloc, fault, input_of(sections)) {
         Ok(text) => Some(text),
@@ -52,7 +52,7 @@ fn reason(alloc: Global, fault: &InputFault, sections: Sections<'_>) -> Option<S
     }
 }
 
-/// Sections, as reports take them.
+/// Converts sections to the input of a report.
 pub(crate) fn input_of(sections: Sections<'_>) -> Input<'_> {
     let Sections {
         schema,
@@ -89,7 +89,7 @@ pub(crate) fn refuse_input<D: Display + Drop, N: NativeSource, O: Out>(
     answer(alloc, line, reason, writer)
 }
 
-// Writes the line of a refusal, and then makes a text of the reason. Only that text needs memory.
+// Writes the line of a refusal, and then makes the report. Only the report needs memory.
 fn answer<D: Display + Drop, O: Out>(alloc: Global, line: &str, reason: D, writer: &mut O) -> Served
     requires { O.has_failed writer.old ≡ false }
     ensures answer { Delivers (refusal line.now) (O.taken writer.old) (O.taken writer.new) result.status }
@@ -108,7 +108,7 @@ fn answer<D: Display + Drop, O: Out>(alloc: Global, line: &str, reason: D, write
     }
 }
 
-/// Writes a line, for which it needs no memory, and returns this status unless the output fails.
+/// Writes a line, which needs no memory, and returns `status` unless the output fails.
 pub(crate) fn write_line<O: Out>(line: &str, status: u8, writer: &mut O) -> u8
     requires open { O.has_failed writer.old ≡ false }
     requires other { (status == WRITE) ≡ false }

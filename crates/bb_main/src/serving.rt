@@ -1,6 +1,6 @@
-//! The program: an input is read, cut into sections, and run, checked or compiled; its trace, the units that its run
-//! leaves (leaving.rt), the lines of its check, its bundle, or the line by which it is refused, is written, and its
-//! report or advice is written besides.
+//! The program: reads an input, cuts it into sections, and runs, checks or compiles it. Writes the trace, the units
+//! that the run leaves (leaving.rt), the lines of the check, the bundle, or the line of the refusal. Reports and advice
+//! are written separately.
 
 ghost use Rattle.std.specs.Prelude.{◌≡◌, ◌≢◌, ◌==◌, ◌+◌, ◌⊎◌, true, false, map};
 ghost use Rattle.std.specs.Prelude.{IfErr, IsNone};
@@ -44,9 +44,9 @@ pub(crate) const MEMORY: u8 = 5;
 /// The status if the output failed.
 pub(crate) const WRITE: u8 = 6;
 
-/// What the program does: `serve`, as the words of its command line choose, with its natives `tally` and `reaper`.
-/// After the line of a refusal it writes the reason to `errors`, and after the lines of a check the advice on its
-/// sources. Returns the status of the program, whatever `errors` does.
+/// Runs the program: `serve` with the options of the command line and the natives `tally` and `reaper`. After the line
+/// of a refusal it writes the reason to `errors`, and after the lines of a check the advice on its sources. Returns the
+/// exit status, whatever happens to `errors`.
 pub fn program<R: In, O: Out, E: Write>(
     alloc: Global,
     options: Options,
@@ -64,7 +64,7 @@ pub fn program<R: In, O: Out, E: Write>(
     ensures too_long { HasTaken (INPUT_LIMIT + 1) (R.remaining reader.old) (R.remaining reader.new)
         → Delivers limit_refusal (O.taken writer.old) (O.taken writer.new) result }
     ensures failed { O.has_failed writer.new ≡ (result == WRITE) }
-    // Nothing is written to `errors` but on a refused input, and on one that is checked.
+    // Something is written to `errors` only if the input is refused or checked.
     ensures silent { result ≢ REFUSED → options.mode ≢ Mode.Check → errors.new ≡ errors.old }
 {
     let Ok(natives) = program_natives(alloc) else {
@@ -80,7 +80,7 @@ pub fn program<R: In, O: Out, E: Write>(
     status
 }
 
-// Writes the report on a refused input, if there is one. What cannot be written is left out.
+// Writes the report on a refused input, if there is one. What cannot be written is dropped.
 fn say<E: Write>(report: Option<String>, errors: &mut E)
     ensures { IsNone report → errors.new ≡ errors.old }
 {
@@ -90,7 +90,7 @@ fn say<E: Write>(report: Option<String>, errors: &mut E)
     let _ = writeln!(errors, "bb: {report}");
 }
 
-// Writes the advice on an input that was checked, if there is any. What cannot be written is left out.
+// Writes the advice on a checked input, if there is any. What cannot be written is dropped.
 fn say_advice<E: Write>(advice: Option<String>, errors: &mut E)
     ensures { IsNone advice → errors.new ≡ errors.old }
 {
@@ -99,12 +99,12 @@ fn say_advice<E: Write>(advice: Option<String>, errors: &mut E)
     }
 }
 
-/// Reads an input and does with it what the mode says: `Run` runs it, with at most `limit` cycles and no activation
-/// rated below `floor`, and writes its trace; `Check` verifies its sources and writes what their parts cost; `Compile`
-/// writes the bundle of its sources that are text; `Units` runs it as `Run` does, and writes a document of the units
-/// that are left in place of the trace. Or it writes the line by which the input is refused. Returns the status of the
-/// program: 0 quiescence, a check or a bundle written, 2 a refused input, 3 the limit, 4 full, 5 no memory, 6 the output
-/// failed. Each native is closed once, in order, whatever the status.
+/// Serves an input. Modes: `Run` runs it, with at most `limit` cycles and no activation rated below `floor`, and writes
+/// its trace; `Check` verifies its sources and writes what their parts cost; `Compile` writes the bundle of its sources
+/// that are text; `Units` runs it as `Run` does, and writes a document of the units that are left instead of the trace.
+/// If the input is refused, it writes the line that refuses it. Returns the exit status: 0 quiescence, or a check or
+/// bundle written; 2 the input is refused; 3 the limit; 4 full; 5 memory ran out; 6 the output failed. Every native is
+/// closed once, in order, whatever the status.
 pub fn serve<N: NativeSource, R: In, O: Out>(
     alloc: Global,
     mode: Mode,
@@ -118,15 +118,15 @@ pub fn serve<N: NativeSource, R: In, O: Out>(
     requires reader { R.has_failed reader.old ≡ false }
     requires writer { O.has_failed writer.old ≡ false }
 
-    // The answer is that to the reader's bytes, or its first pieces where memory ran out, or a front of its text where
-    // the output failed. Where the reader failed, the answer refuses the input.
+    // The answer is the one to the reader's bytes, or its first pieces if memory ran out, or a prefix of its text if
+    // the output failed. If the reader failed, the answer refuses the input.
     ensures answer { OnFalse (R.has_failed reader.new)
         (Serves (map N.meaning natives.items) mode limit floor (R.remaining reader.old) (O.taken writer.old)
         (O.taken writer.new) result) }
     ensures unread { OnTrue (R.has_failed reader.new)
         (Delivers read_refusal (O.taken writer.old) (O.taken writer.new) result) }
 
-    // At most one byte more than an input may have is taken. The input is then refused, which needs no memory.
+    // At most one byte more than `INPUT_LIMIT` is taken. The input is then refused, which needs no memory.
     ensures taken { TakesAtMost (INPUT_LIMIT + 1) (R.remaining reader.old) (R.remaining reader.new) }
     ensures too_long { HasTaken (INPUT_LIMIT + 1) (R.remaining reader.old) (R.remaining reader.new)
         → Delivers limit_refusal (O.taken writer.old) (O.taken writer.new) result }
@@ -137,7 +137,7 @@ pub fn serve<N: NativeSource, R: In, O: Out>(
     serve_with(alloc, options, natives, reader, writer).status
 }
 
-/// `serve` as the words of a command line choose, with the report on a refused input and the advice on a checked one.
+/// Serves an input as `serve` does, with the report on a refused input and the advice on a checked one.
 pub fn serve_with<N: NativeSource, R: In, O: Out>(
     alloc: Global,
     options: Options,
@@ -182,7 +182,7 @@ pub fn serve_with<N: NativeSource, R: In, O: Out>(
     }
 }
 
-// Serves an input of these bytes. If they have no sections, the answer needs no memory.
+// Serves an input with these bytes. If they have no sections, the answer needs no memory.
 fn serve_bytes<N: NativeSource, O: Out>(
     alloc: Global,
     options: Options,
@@ -210,7 +210,7 @@ fn serve_bytes<N: NativeSource, O: Out>(
     }
 }
 
-// Serves an input of these sections.
+// Serves an input with these sections.
 fn serve_sections<N: NativeSource, O: Out>(
     alloc: Global,
     options: Options,
@@ -237,7 +237,7 @@ fn serve_sections<N: NativeSource, O: Out>(
     }
 }
 
-// Runs an input of these sections.
+// Runs an input with these sections.
 fn run_sections<N: NativeSource, O: Out>(
     alloc: Global,
     options: Options,
@@ -274,7 +274,7 @@ fn run_sections<N: NativeSource, O: Out>(
     }
 }
 
-// Checks an input of these sections. The answer does not depend on the units; the advice does.
+// Checks an input with these sections. The answer does not depend on the units; the advice does.
 fn check_sections<N: NativeSource, O: Out>(
     alloc: Global,
     floor: i64,
@@ -305,7 +305,7 @@ fn check_sections<N: NativeSource, O: Out>(
     }
 }
 
-// The status of an input that was checked, and the advice on it.
+// Returns the status of a checked input, and the advice on it.
 fn advise(alloc: Global, checked: &Check, floor: i64, sections: Sections<'_>) -> Served
     ensures status { result.status ≡ done_status checked.now.done }
     ensures silent { IsNone result.report }
@@ -317,7 +317,7 @@ fn advise(alloc: Global, checked: &Check, floor: i64, sections: Sections<'_>) ->
     }
 }
 
-// Compiles an input of these sections. The units and the bundle are not looked at.
+// Compiles an input with these sections. The units and the bundle are ignored.
 fn compile_sections<N: NativeSource, O: Out>(
     alloc: Global,
     natives: Vec<N>,
@@ -346,7 +346,7 @@ fn compile_sections<N: NativeSource, O: Out>(
     }
 }
 
-// The status of a text that was written this far.
+// Returns the status of a text, by how far it was written.
 fn done_status(done: Done) -> u8
     ensures { result ≡ done_status done }
 {
@@ -356,7 +356,7 @@ fn done_status(done: Done) -> u8
     }
 }
 
-/// The status of a finish.
+/// Returns the status of a finish.
 pub(crate) fn status(finish: Finish) -> u8
     ensures { result ≡ status_of finish }
 {

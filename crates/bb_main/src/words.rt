@@ -1,4 +1,4 @@
-//! The answer to words of the command line that choose nothing: their text is written. Programs call `answer_words`.
+//! The answer to words of the command line that choose no options: their text. Programs call `answer_words`.
 
 ghost use Rattle.std.specs.Prelude.{◌≡◌, ◌==◌, ◌∷◌, [], false};
 ghost use Rattle.bb_main.specs.Serve.{Delivers, fault_answer};
@@ -8,8 +8,8 @@ use crate::serving::{MEMORY, REFUSED, WRITE};
 use bb_main_options::OptionsFault;
 use bb_shell::{Out, put_all};
 
-/// Writes the text of words that choose nothing. Returns the status of the program: 0 help or the version was asked
-/// for, 2 the words are refused, 5 no memory, 6 the output failed.
+/// Writes the text of words that choose no options. Returns the exit status: 0 the words ask for help or the version, 2
+/// they are refused, 5 memory ran out, 6 the output failed.
 pub fn answer_words<O: Out>(fault: &OptionsFault, writer: &mut O) -> u8
     requires { O.has_failed writer.old ≡ false }
     ensures answer { Delivers (fault_answer fault.now) (O.taken writer.old) (O.taken writer.new) result }
@@ -22,7 +22,7 @@ pub fn answer_words<O: Out>(fault: &OptionsFault, writer: &mut O) -> u8
     }
 }
 
-// Writes a text, and returns this status unless the output fails.
+// Writes a text, and returns `status` unless the output fails.
 fn write_text<O: Out>(text: &str, status: u8, writer: &mut O) -> u8
     requires open { O.has_failed writer.old ≡ false }
     requires other { (status == WRITE) ≡ false }

@@ -1,12 +1,12 @@
--- what a reading of a whole input returns, and what it takes
+-- what reading a whole input returns, and how many bytes it takes
 pub mod Reading
 -- the lines of a text
 pub mod Lines
 -- the sections of a text: headers, and the texts between them
 pub mod Sections
--- the sections of an input's bytes, or why it is refused
+-- the sections of an input's bytes, or why the input is refused
 pub mod Input
--- the lines by which an input without sections is refused
+-- the lines that refuse an input without sections
 pub mod Refusals
--- relations that serve proofs
+-- relations used by proofs only
 pub mod proving

@@ -1,4 +1,4 @@
--- How much of a reader was taken, and what a reading of a whole input returns.
+-- How many bytes are taken from a reader, and what reading a whole input returns.
 use Rattle.std.specs.Prelude.{◌≡◌, ◌≤◌, ◌+◌, ℕ, Bool, true, false, List, length, Option, IfSome, IsSomeAnd, Result, Ok, Err, Vec}
 use Rattle.std.specs.Io.KnownBytes.{Consumes}
 use Rattle.std.specs.declared.alloc.Global.{Global}
@@ -6,11 +6,11 @@ use Rattle.bb_main_input.specs.declared.read.TheConstants.{INPUT_LIMIT}
 use Rattle.bb_main_input.specs.declared.read.ReadFault.{ReadFault}
 use Rattle.bb_main_input.specs.declared.read.ReadFault.TheVariants.{Read, Limit, Memory}
 
--- at most `most` bytes were taken, from the front
+-- at most `most` bytes are taken, from the front
 abbrev pub TakesAtMost : ℕ → Option (List ℕ) → Option (List ℕ) → Type 0
 TakesAtMost most old new = (bytes : List ℕ) × Consumes old new bytes × (length bytes ≤ most)
 
--- the bytes of the reader are known, and are `n` fewer
+-- the reader's bytes are known, and `n` fewer are left
 abbrev pub HasTaken : ℕ → Option (List ℕ) → Option (List ℕ) → Type 0
 HasTaken n old new = IsSomeAnd old (λ xs. IsSomeAnd new (λ ys. length xs ≡ n + length ys))
 
@@ -21,7 +21,7 @@ is_failure (Err Read) = true
 is_failure (Err Limit) = false
 is_failure (Err Memory) = false
 
--- at Ok all bytes, which are within the limit; at Limit one more was taken, as at no other result
+-- at Ok, all bytes, within the limit; at Limit, and at no other result, one byte more than the limit was taken
 abbrev pub Reads : Option (List ℕ) → Option (List ℕ) → Result (Vec ℕ Global) ReadFault → Type 0
 Reads old new (Ok read) =
     IfSome old (λ xs. read.items ≡ xs) × Consumes old new read.items × (length read.items ≤ INPUT_LIMIT)

@@ -1,13 +1,13 @@
--- The lines by which an input without sections is refused.
+-- The lines that refuse an input without sections.
 use Rattle.std.specs.Prelude.{ℕ, List, codes}
 use Rattle.bb_main_input.specs.declared.section_fault.SectionFault.{SectionFault}
 use Rattle.bb_main_input.specs.declared.section_fault.SectionFault.TheVariants.{Limit, Utf8, Sections}
 
--- the line by which an input is refused if the reader failed, whatever its bytes are
+-- the line that refuses an input if the reader failed, regardless of its bytes
 abbrev pub read_line : List ℕ
 read_line = codes "refused input read"
 
--- the line by which an input is refused if its bytes have no sections
+-- the line that refuses an input whose bytes have no sections
 abbrev pub section_line : SectionFault → List ℕ
 section_line Limit = codes "refused input limit"
 section_line Utf8 = codes "refused input utf8"

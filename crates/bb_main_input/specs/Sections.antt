@@ -8,7 +8,7 @@ use Rattle.bb_main_input.specs.declared.section_fault.SectionFault.{SectionFault
 use Rattle.bb_main_input.specs.declared.section_fault.SectionFault.TheVariants.{Sections as NotInOrder}
 use Rattle.bb_main_input.specs.Lines.{lines}
 
--- a line that is the word alone, ended by LF, by CR LF or, without a CR, by the end of the input
+-- the line is only the word, ended by LF, by CR LF or, without a CR, by the end of the input
 unfoldable pub is_alone : List ℕ → List ℕ → Bool
 is_alone word line = bytes_eq line word || bytes_eq line (word ++ 10 ∷ []) || bytes_eq line (word ++ 13 ∷ 10 ∷ [])
 
@@ -25,7 +25,7 @@ header_of line =
 pub data Part : Type 0 where
   part : Header → List ℕ → Part
 
--- a line in front of the rest, unless it is a header
+-- a line before the rest, unless it is a header
 abbrev pub line_before : Option Header → List ℕ → List ℕ → List ℕ
 line_before (Some header) line rest = []
 line_before None line rest = line ++ rest
@@ -35,7 +35,7 @@ abbrev pub before : List (List ℕ) → List ℕ
 before [] = []
 before (line ∷ others) = line_before (header_of line) line (before others)
 
--- a header's part in front of the others
+-- a header's part before the others
 abbrev pub with_part : Option Header → List ℕ → List Part → List Part
 with_part (Some header) text others = part header text ∷ others
 with_part None text others = others
@@ -52,17 +52,17 @@ pub record Texts : Type 0 where
   pub sources : List ℕ
   pub bundle : List ℕ
 
--- the text of the first units, if they come next, or `{}`, and the parts after them
+-- the text of the initial units if they come next, else `{}`, and the parts after them
 abbrev pub units_first : List Part → List ℕ × List Part
 units_first (part Units text ∷ others) = (text, others)
 units_first others = (codes "{}", others)
 
--- the text of the sources, if it comes next, or an empty one, and the parts after it
+-- the text of the sources if it comes next, else an empty one, and the parts after it
 abbrev pub sources_first : List Part → List ℕ × List Part
 sources_first (part Sources text ∷ others) = (text, others)
 sources_first others = ([], others)
 
--- the text of the bundle, if it comes next, or an empty one, and the parts after it
+-- the text of the bundle if it comes next, else an empty one, and the parts after it
 abbrev pub bundle_first : List Part → List ℕ × List Part
 bundle_first (part Bundle text ∷ others) = (text, others)
 bundle_first others = ([], others)
@@ -72,7 +72,7 @@ abbrev pub alone : Texts → List Part → Result Texts SectionFault
 alone texts [] = Ok texts
 alone texts (p ∷ others) = Err NotInOrder
 
--- the texts of parts: the schema first, then units or none, then sources or none, then a bundle or none, and no more
+-- the texts of parts in order: the schema, then units, sources and a bundle, each optional, and nothing else
 abbrev pub in_order : List Part → Result Texts SectionFault
 in_order (part Schema schema ∷ others) =
     let units = units_first others in
@@ -81,6 +81,6 @@ in_order (part Schema schema ∷ others) =
     alone (record { schema = schema; units = units.0; sources = sources.0; bundle = bundle.0 }) bundle.1
 in_order _ = Err NotInOrder
 
--- the sections of a text, which begins with its first header
+-- the sections of a text, which has to begin with its first header
 unfoldable pub sections_of : List ℕ → Result Texts SectionFault
 sections_of text = if bytes_eq (before (lines text)) [] then in_order (parts (lines text)) else Err NotInOrder

@@ -1,3 +1,3 @@
--- Relations that serve proofs: no public clause cites them.
+-- Relations used by proofs only: no public clause cites them.
 -- how a text is cut into its sections
 pub mod Cuts

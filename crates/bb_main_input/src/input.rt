@@ -1,4 +1,5 @@
-//! Where an input comes from: `In`, and a reader of std's as one. Callers of `serve` and `program` make it.
+//! Where an input is read from: `In`, and `Intake`, which makes one of a reader of std. Callers of `serve` and
+//! `program` build it.
 
 ghost use Rattle.std.specs.Prelude.{◌≡◌, ◌<◌, ◌≤◌, ℕ, List, Option, Bool, false, length, take};
 ghost use Rattle.std.specs.Prelude.{IfNone, IfSome, is_none};
@@ -6,19 +7,19 @@ ghost use Rattle.std.specs.Io.KnownBytes.{Consumes, IsAtEnd, Keeps};
 
 use std::io::{ErrorKind, Read};
 
-// The most tries of one read that is interrupted.
+// The maximum number of tries of a read that is interrupted.
 const TRY_LIMIT: usize = 64;
 
-/// Where an input is read from: it gives bytes until the end, or until it fails.
+/// A source of bytes: it yields bytes until it ends or fails.
 pub trait In {
-    /// The bytes that are left to read, where they are known.
+    /// The bytes left to read, if they are known.
     ghost remaining: { Self → Option (List ℕ) };
 
     /// Whether the reader has failed.
     ghost has_failed: { Self → Bool };
 
-    /// Reads bytes into the front of the buffer, and returns how many: none only at the end. Or takes none, returns
-    /// `None` and has failed.
+    /// Reads bytes into the front of the buffer and returns their number, which is 0 only at the end. If it fails, it
+    /// takes no bytes and returns `None`.
     fn read(&mut self, buffer: &mut [u8]) -> Option<usize>
         requires room { 0 < length buffer.old }
         requires open { has_failed self.old ≡ false }
@@ -28,13 +29,13 @@ pub trait In {
         ensures none { IfNone result (Keeps (remaining self.old) (remaining self.new)) }
         ensures failed { has_failed self.new ≡ is_none result };
 
-    /// Whether the reader has failed.
+    /// Returns whether the reader has failed.
     fn failed(&self) -> bool
         ensures { result ≡ has_failed self.now };
 }
 
-/// A reader as an `In`. A read that was interrupted is tried again; any other error, or too many interrupted tries, is
-/// its failure.
+/// A reader as an `In`. An interrupted read is tried again, at most 64 times in all; any other error, and that many
+/// interrupted tries, make it fail.
 #[derive(Drop)]
 pub struct Intake<R: Read> {
     reader: R,
@@ -42,7 +43,7 @@ pub struct Intake<R: Read> {
 }
 
 impl<R: Read> Intake<R> {
-    /// Reads from a reader from now on.
+    /// Reads from this reader.
     pub fn new(reader: R) -> Intake<R>
         ensures reader { result.reader ≡ reader }
         ensures open { result.failed ≡ false }
@@ -53,7 +54,7 @@ impl<R: Read> Intake<R> {
         }
     }
 
-    /// The reader.
+    /// Returns the reader.
     pub fn into_inner(self) -> R
         ensures { result ≡ self.reader }
     {

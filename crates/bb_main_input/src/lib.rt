@@ -1,11 +1,11 @@
-//! The input of the program: its bytes are read, and cut into sections.
+//! The input of the program: reads its bytes, and cuts them into sections.
 //!
 //! - In: a reader, as `In`.
-//! - Out: `read_input`, all bytes, and `Sections::of_bytes`, the texts between the header lines, or why there are none.
-//! - Callers rely on: at most one byte more than `INPUT_LIMIT` is taken, and then the input is refused; a section is its
-//!   text byte for byte.
-//! - Family: bb_main serves what is cut here.
-//! - Cases: `program`, `sentences`, `limits`; tests in bb_main.
+//! - Out: `read_input`, all bytes; `Sections::of_bytes`, the texts between the header lines, or the first fault.
+//! - Callers rely on: at most one byte more than `INPUT_LIMIT` is taken, and then the input is refused; a section is
+//!   its text byte for byte.
+//! - Family: bb_main serves the sections.
+//! - Cases: `program`, `sentences`, `limits`; tests in bb_main_tests.
 #![tactic(auto)]
 
 mod input;

@@ -1,4 +1,4 @@
-//! All bytes of an input, up to the limit. `serve` of bb_main reads them.
+//! Reading of a whole input, up to the limit. `serve` (bb_main) calls it.
 
 ghost use Rattle.std.specs.Prelude.{◌≡◌, false};
 ghost use Rattle.bb_main_input.specs.declared.read.ReadFault.TheVariants.{Memory as OutOfMemory};
@@ -8,10 +8,10 @@ use crate::input::In;
 use std::alloc::{AllocError, Global};
 use thiserror::Error;
 
-/// The most bytes that an input may have.
+/// The maximum number of bytes of an input.
 pub const INPUT_LIMIT: usize = 16_777_216;
 
-// The most bytes that one read asks for.
+// The maximum number of bytes requested by one read.
 const CHUNK_LIMIT: usize = 8_192;
 
 /// Why the bytes of an input were not all read.
@@ -20,7 +20,7 @@ pub enum ReadFault {
     /// The reader failed.
     #[error("input: it could not be read")]
     Read,
-    /// The input has more bytes than are taken.
+    /// The input has more than `INPUT_LIMIT` bytes.
     #[error("input: it has more than 16,777,216 bytes")]
     Limit,
     /// Memory ran out.
@@ -36,8 +36,8 @@ impl From<AllocError> for ReadFault {
     }
 }
 
-/// All bytes of an input, which are at most `INPUT_LIMIT`. `Limit`: one byte more was there, and was taken, as at no
-/// other result.
+/// Reads all bytes of an input, at most `INPUT_LIMIT`. `Read`: the reader failed. `Limit`: there was one byte more; it
+/// was taken, which happens at no other result. `Memory`: memory ran out.
 pub fn read_input<R: In>(alloc: Global, reader: &mut R) -> Result<Vec<u8>, ReadFault>
     requires { R.has_failed reader.old ≡ false }
     ensures read { Reads (R.remaining reader.old) (R.remaining reader.new) result }

@@ -1,16 +1,16 @@
-//! What there is to say of bytes that have no sections: the sentence of the fault, and below it the first line that is
-//! wrong. The refusal (bb_main) makes a text of it.
+//! The report on bytes without sections: the sentence of the fault and, below it, the first wrong line. Refusals
+//! (bb_main) print it.
 
 use crate::section_fault::SectionFault;
 use crate::sections::{Header, header_of};
 use std::fmt::{self, Display, Formatter, Write};
 use std::str;
 
-// The most characters of a line that are shown.
+// The maximum number of characters of a line that are shown.
 const SHOWN: usize = 40;
 
-/// A fault of the sections of an input. It displays as the sentence of the fault and, where the sections are not in their
-/// order, a note on the first line that is wrong.
+/// A fault of the sections of an input. It displays as the fault's sentence and, if the sections are out of order, a
+/// note on the first wrong line.
 #[derive(Clone, Copy, Debug)]
 pub struct SectionReport<'a> {
     /// Why the input has no sections.
@@ -29,7 +29,7 @@ impl Display for SectionReport<'_> {
     }
 }
 
-// Writes the note on the first line that is wrong.
+// Writes the note on the first wrong line.
 fn write_note<W: Write>(f: &mut Formatter<W>, input: &str) -> fmt::Result {
     write!(f, "\n  | ")?;
     let first = input.lines().next().unwrap_or("");
@@ -49,7 +49,7 @@ fn write_note<W: Write>(f: &mut Formatter<W>, input: &str) -> fmt::Result {
     Ok(())
 }
 
-// Writes what is wrong with the first line, where it is not `%schema`.
+// Writes what is wrong with the first line if it is not `%schema`.
 fn write_first<W: Write>(f: &mut Formatter<W>, input: &str, first: &str) -> fmt::Result {
     if input.is_empty() {
         return write!(f, "it is empty: \"%schema\" is due in line 1");
@@ -72,7 +72,7 @@ fn write_first<W: Write>(f: &mut Formatter<W>, input: &str, first: &str) -> fmt:
     }
 }
 
-// Writes what is wrong with a header line, from 0, behind that of another section, the last.
+// Writes what is wrong with a header line at an index, from 0, that follows the header of section `last`.
 fn write_disorder<W: Write>(
     f: &mut Formatter<W>,
     input: &str,
@@ -101,8 +101,8 @@ fn write_disorder<W: Write>(
     }
 }
 
-// Writes the front of a line, with a blank in place of each control character, so that an untrusted text does nothing
-// to a terminal.
+// Writes the first characters of a line, with a blank for each control character, so that an untrusted text can't
+// affect a terminal.
 fn write_shown<W: Write>(f: &mut Formatter<W>, line: &str) -> fmt::Result {
     for c in line.chars().take(SHOWN) {
         f.write_char(if c.is_control() { ' ' } else { c })?;

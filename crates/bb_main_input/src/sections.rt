@@ -1,4 +1,4 @@
-//! The cutting of an input into its sections, each the text after its header line. `serve` cuts an input.
+//! Cuts an input into its sections, each the text after its header line. `serve` (bb_main) calls it.
 
 ghost use Rattle.std.specs.Prelude.{◌≡◌, ◌++◌, ◌∷◌, [], ◌<◌, MatchOption, length};
 ghost use Rattle.bb_main_input.specs.Lines.{lines};
@@ -20,7 +20,7 @@ pub(crate) enum Header {
 }
 
 impl Header {
-    /// The word of the header line.
+    /// Returns the word of the header line.
     pub(crate) fn word(self) -> &'static str {
         match self {
             Header::Schema => "%schema",
@@ -30,7 +30,7 @@ impl Header {
         }
     }
 
-    /// The place of the section among the four, from 0.
+    /// Returns the position of the section among the four, from 0.
     pub(crate) fn rank(self) -> u8 {
         match self {
             Header::Schema => 0,
@@ -46,18 +46,19 @@ impl Header {
 pub struct Sections<'a> {
     /// The schema.
     pub schema: &'a str,
-    /// The first units, or `{}` where the input has none.
+    /// The initial units, or `{}` if the input has none.
     pub units: &'a str,
-    /// The sources as text, or nothing.
+    /// The sources as text, or an empty text.
     pub sources: &'a str,
-    /// The bundle, or nothing.
+    /// The bundle, or an empty text.
     pub bundle: &'a str,
     /// The whole input.
     pub whole: &'a str,
 }
 
 impl<'a> Sections<'a> {
-    /// The sections of an input's bytes, or why it is refused: `Limit` first, then `Utf8`, then `Sections`.
+    /// Cuts an input's bytes into sections, or returns why the input is refused. `Limit` comes before `Utf8`, and
+    /// `Utf8` before `Sections`.
     pub fn of_bytes(bytes: &'a [u8]) -> Result<Sections<'a>, SectionFault>
         ensures { texts_of result ≡ input_of bytes.now }
     {
@@ -91,7 +92,7 @@ impl<'a> Sections<'a> {
     }
 }
 
-// The section that a text begins with, if its first line is that header, and the text from the next header on.
+// Returns the section that a text begins with, if its first line is that header, and the text from the next header on.
 fn section<'a>(header: Header, text: &'a str) -> Option<(&'a str, &'a str)>
     ensures { Takes header text.now result }
 {
@@ -102,7 +103,7 @@ fn section<'a>(header: Header, text: &'a str) -> Option<(&'a str, &'a str)>
     Some(to_header(after))
 }
 
-// The text before its first header line, and the text from that line on.
+// Returns the text before its first header line, and the text from that line on.
 fn to_header(text: &str) -> (&str, &str)
     ensures before { result.0.now ≡ before (lines text.now) }
     ensures parts { parts (lines text.now) ≡ parts (lines result.1.now) }
@@ -119,7 +120,7 @@ fn to_header(text: &str) -> (&str, &str)
     (&text[..text.len() - rest.len()], rest)
 }
 
-/// The section that a line begins, if it is a header.
+/// Returns the section that a line begins, if it is a header.
 #[tactic(auto, unfolding(crate::specs::Sections::header_of))]
 pub(crate) fn header_of(line: &str) -> Option<Header>
     ensures { result ≡ header_of line.now }
@@ -137,7 +138,7 @@ pub(crate) fn header_of(line: &str) -> Option<Header>
     }
 }
 
-// Whether a line is the word alone, ended by LF, by CR LF or, without a CR, by the end of the input.
+// Returns whether a line is only the word, ended by LF, by CR LF or, without a CR, by the end of the input.
 fn is_alone(word: &str, line: &str) -> bool
     ensures { result ≡ is_alone word.now line.now }
 {
@@ -147,14 +148,14 @@ fn is_alone(word: &str, line: &str) -> bool
     }
 }
 
-// Whether a text is nothing, LF or CR LF.
+// Returns whether a text is empty, LF or CR LF.
 fn is_end(text: &str) -> bool
     ensures { result ≡ is_end text.now }
 {
     text.is_empty() || text == "\n" || text == "\r\n"
 }
 
-// The first line of a text with its end, and the text after it.
+// Returns the first line of a text with its line end, and the text after it.
 fn first_line(text: &str) -> (&str, &str)
     ensures joined { text.now ≡ result.0.now ++ result.1.now }
     ensures first { 0 < length text.now → lines text.now ≡ result.0.now ∷ lines result.1.now }

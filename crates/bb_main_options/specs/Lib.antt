@@ -1,6 +1,6 @@
 -- the numbers of faults
 pub mod Faults
--- the words of the command line, and what they choose
+-- the words of the command line, and the options they choose
 pub mod CommandLine
--- what is answered to words
+-- what is returned for words
 pub mod Answers

@@ -1,30 +1,30 @@
-//! What a command line chooses. `options` makes it, and programs (bb_main) go by it.
+//! The options of a command line. `options` returns them, and programs (bb_main) obey them.
 
-/// The most cycles of a run if the words give no limit.
+/// The maximum number of cycles of a run if the words give no limit.
 pub const CYCLE_LIMIT: u32 = 1_000_000;
 
-/// The least rating at which a run chooses an activation if the words give no floor.
+/// The minimum rating at which a run chooses an activation if the words give no floor.
 pub const FLOOR: i64 = 0;
 
 /// What is done with an input.
 #[derive(Clone, Copy, Debug, PartialEq, Eq)]
 pub enum Mode {
-    /// The input is run, and its trace is written.
+    /// Runs the input and writes its trace.
     Run,
-    /// The sources are verified, and what their parts cost is written.
+    /// Verifies the sources and writes what their parts cost.
     Check,
-    /// The sources that are text are compiled, and their bundle is written.
+    /// Compiles the sources that are text and writes their bundle.
     Compile,
-    /// The input is run, and the units that it leaves are written, as a document of first units.
+    /// Runs the input and writes the units it leaves, as a document of initial units.
     Units,
 }
 
-/// What the words of a command line choose.
+/// The options that a command line chooses.
 #[derive(Clone, Copy, Debug, PartialEq, Eq)]
 pub struct Options {
     pub mode: Mode,
-    /// The most cycles of a run.
+    /// The maximum number of cycles of a run.
     pub limit: u32,
-    /// The least rating at which a run chooses an activation.
+    /// The minimum rating at which a run chooses an activation.
     pub floor: i64,
 }

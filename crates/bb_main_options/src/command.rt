@@ -1,5 +1,4 @@
-//! The command line as it is declared to `clap`: its words, what their values are, and what help shows. `options`
-//! parses by it.
+//! The command line as declared to `clap`: its words, their values, and the help. `options` parses words with it.
 
 ghost use Rattle.std.specs.Prelude.{◌≡◌, IfOk, List};
 ghost use Rattle.clap.specs.Words.{app_of};
@@ -11,10 +10,10 @@ use clap::builder::PossibleValue;
 use clap::{Arg, Command, value_parser};
 use std::alloc::{AllocError, Global};
 
-/// The version of the program, and the logic of the kit that its proofs hold in.
+/// The version of the program, and the logic of the kit in which its proofs hold.
 pub const VERSION: &str = "0.9.0 (proved in logic dac8208d650f15bf)";
 
-// The end of help: what the program's statuses mean.
+// The end of the help: the exit statuses.
 const STATUSES: &str = "Exit status:
   0  The run came to quiescence, or the check or the bundle was written
   2  The input is refused, or these words are
@@ -23,7 +22,7 @@ const STATUSES: &str = "Exit status:
   5  Memory ran out
   6  The output took no more";
 
-/// The modes, with what help says of each.
+/// Returns the modes, each with its line of the help.
 pub(crate) fn mode_values() -> [PossibleValue<'static>; 4]
     ensures { names_in result ≡ mode_names }
 {
@@ -35,7 +34,7 @@ pub(crate) fn mode_values() -> [PossibleValue<'static>; 4]
     ]
 }
 
-/// The command, whose mode is one of the values of `modes`.
+/// Returns the command, whose mode is one of the values of `modes`.
 pub(crate) fn command<'a>(
     alloc: Global,
     modes: &'a [PossibleValue<'a>],

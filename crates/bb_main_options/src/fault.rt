@@ -1,4 +1,4 @@
-//! Why words give no options. `options` returns it, and programs print its text.
+//! Why words give no options. `options` returns these faults, and programs print their text.
 
 ghost use Rattle.std.specs.Prelude.{◌≡◌};
 ghost use Rattle.bb_main_options.specs.declared.fault.OptionsFault.TheVariants.{Memory as OutOfMemory};
@@ -10,10 +10,10 @@ use thiserror::Error;
 /// Why the words of a command line give no options.
 #[derive(Debug, Drop, Error)]
 pub enum OptionsFault {
-    /// The words ask for help or the version, which is this text.
+    /// The words ask for help or the version; this text is the reply.
     #[error("{0}")]
     Help(String),
-    /// The words are not those of the command, as this text explains.
+    /// The words do not fit the command; this text says why.
     #[error("{0}")]
     Words(String),
     /// Memory ran out.
@@ -22,7 +22,7 @@ pub enum OptionsFault {
 }
 
 impl OptionsFault {
-    /// The number of the fault, from 1 to 3.
+    /// Returns the number of the fault, from 1 to 3.
     pub fn number(&self) -> u8
         ensures { result ≡ fault_number self.now }
     {

@@ -1,4 +1,4 @@
-//! The reading of the words of a command line. The program (bb) reads its own.
+//! Reads the words of a command line. The program (bb) passes its own.
 
 ghost use Rattle.std.specs.Prelude.{◌≡◌, map};
 ghost use Rattle.clap.specs.Words.{found_of, rows_of};
@@ -14,9 +14,10 @@ use clap::{ArgMatches, Error};
 use std::alloc::Global;
 use std::convert::AsStr;
 
-/// What the words after the program's name choose: `[MODE] [--limit N] [--floor N]`, in any order. A mode is `run`,
-/// which is the default, `check`, `compile` or `units`; a limit is a u32, by default 1000000; a floor is an i64, by default 0.
-/// `Help`: help or the version is asked for; `Words`: `clap` does not take the words.
+/// Returns the options chosen by the words after the program's name: `[MODE] [--limit N] [--floor N]`, in any order. A
+/// mode is `run` (the default), `check`, `compile` or `units`; a limit is a u32, 1000000 by default; a floor is an i64,
+/// 0 by default. `Help`: the words ask for help or the version. `Words`: `clap` does not accept the words. `Memory`:
+/// memory ran out.
 pub fn options<S: AsStr>(alloc: Global, words: &[S]) -> Result<Options, OptionsFault>
     ensures { Answers (map S.text words.now) result }
 {
@@ -28,7 +29,7 @@ pub fn options<S: AsStr>(alloc: Global, words: &[S]) -> Result<Options, OptionsF
     }
 }
 
-// The options that were matched.
+// Returns the options of the matches.
 fn chosen(matches: &ArgMatches<'_>) -> Options
     ensures { result ≡ options_in (rows_of (found_of matches.now)) }
 {
@@ -71,7 +72,7 @@ fn floor(matches: &ArgMatches<'_>) -> i64
     matches.get_one::<i64>("floor").unwrap_or(FLOOR)
 }
 
-// Why `clap` gave no matches for these words, with its text, and a tip where one helps.
+// Returns why `clap` gave no matches for these words: its text, with a tip if one helps.
 fn refusal<S: AsStr>(alloc: Global, error: &Error, words: &[S]) -> OptionsFault
     ensures { IsRefusal error.now result }
 {

@@ -1,11 +1,11 @@
-//! What a refusal says beside clap's words where the command line shows what was meant: a negative floor, or the name
-//! of an input file. `options` asks it.
+//! Tips added to clap's text if the words show what was meant: a negative floor, or the name of an input file.
+//! `options` adds them.
 
 use std::alloc::{AllocError, Global};
 use std::convert::AsStr;
 
-/// The text of a refusal of `words`: that of clap, `text`, with a tip where one helps. Clap's own tip for a negative
-/// number, `-- -5`, is none for this command, so another text stands in its place.
+/// Returns the text of a refusal of `words`: `text`, which is clap's, with a tip if one helps. Clap's tip for a
+/// negative number, `-- -5`, does not work for this command, so another text replaces clap's.
 pub(crate) fn with_tip<S: AsStr>(
     alloc: Global,
     text: String,
@@ -22,7 +22,7 @@ pub(crate) fn with_tip<S: AsStr>(
     }
 }
 
-// The word after `--floor`, where it is a negative number.
+// Returns the word after `--floor` if it is a negative number.
 fn negative_floor<S: AsStr>(words: &[S]) -> Option<&str> {
     let mut is_floor = false;
     for word in words {
@@ -45,7 +45,7 @@ fn is_negative(word: &str) -> bool {
     }
 }
 
-// The first word that looks like the name of a file.
+// Returns the first word that looks like a file name.
 fn file<S: AsStr>(words: &[S]) -> Option<&str> {
     for word in words {
         let word = word.as_str();

@@ -1,4 +1,4 @@
-//! What no case can say: moves of a run that is held, and reading its trace in pieces.
+//! Tests of held runs that no case can make: moves, and reading the trace in pieces.
 
 use bb_c_run::{Held, OpenFault, Stands};
 use bb_shell::{Ask, Text, Value};

@@ -1,5 +1,5 @@
-//! Tests of the program and of runs that C holds: readers and writers that fail, words, and moves, as no case can say
-//! them. They stand here so that the gate proves those crates once.
+//! Tests of the program and of runs held by C: readers and writers that fail, words, and moves, which no case can make.
+//! They are in one crate so that the gate proves those crates only once.
 #![tactic(auto)]
 
 #[cfg(test)]

@@ -1,4 +1,4 @@
-//! A run of one source that says much, and its trace. The tests have it served.
+//! A run of one source that says much, and its trace. The tests serve it.
 
 use std::alloc::{AllocError, Global};
 
@@ -15,7 +15,7 @@ const PUSH: &str = "020000";
 
 const SAY: &str = "2910";
 
-/// The input of a run of one source, which says two lines of sixteen texts of 40,000 bytes each.
+/// Returns the input of a run of one source that says two lines of sixteen texts of 40,000 bytes each.
 pub(crate) fn long_run(alloc: Global) -> Result<String, AllocError> {
     let mut input = String::from_str(
         alloc,
@@ -32,7 +32,7 @@ pub(crate) fn long_run(alloc: Global) -> Result<String, AllocError> {
     Ok(input)
 }
 
-/// The trace of the long run. The segment of its execution, from the first `say` to `end`, has 1.28 MB.
+/// Returns the trace of the long run. The segment of its execution, from the first `say` to `end`, has 1.28 MB.
 pub(crate) fn long_trace(alloc: Global) -> Result<String, AllocError> {
     let mut trace = String::from_str(
         alloc,

@@ -1,5 +1,5 @@
-//! Tests of the program with readers that give pieces, fail, also once alone, are interrupted or never end, and with a
-//! segment that is long.
+//! Tests of the program with readers that give pieces, that fail, also only once, that are interrupted or never end,
+//! and with a long segment.
 
 ghost use Rattle.std.specs.Prelude.{◌≡◌, true, map};
 ghost use Rattle.bb_shell.specs.Roster.{all_open};

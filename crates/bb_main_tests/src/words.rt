@@ -1,4 +1,4 @@
-//! Tests of words: what they choose, or the number of the fault; and a line of each text.
+//! Tests of words: the options they choose, or the number of the fault; and a line of each text.
 
 use bb_main_options::{OptionsFault, VERSION, options};
 use std::alloc::Global;

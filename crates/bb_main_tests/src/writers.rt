@@ -1,4 +1,4 @@
-//! Tests of the program with writers that fail, also with writers that fail once and would go on.
+//! Tests of the program with writers that fail, also with writers that fail once and would then continue.
 
 use crate::readers::{FIRST_RUN, none};
 use bb_main::{answer_words, serve};

@@ -1,4 +1,4 @@
--- The asks of a post or an answer, each from what comes behind its first word.
+-- The asks of a post or an answer, each from the text after its first word.
 use Rattle.std.specs.Prelude.{ℕ, List, Result, Ok}
 use Rattle.bb_basis.specs.Results.{◌>>=◌}
 use Rattle.bb_schema.specs.Schema.{Schema}
@@ -66,7 +66,7 @@ say_of text = do
   said ← text_of text
   Ok (Say said)
 
--- the ask of a word, from what comes behind the word
+-- the ask of a word, from the text after the word
 abbrev pub ask_of : Schema → AskWord → List ℕ → Result Ask Slip
 ask_of schema words.New text = new_of text
 ask_of schema words.Delete text = delete_of text

@@ -16,7 +16,7 @@ flaw_number Value = 5
 flaw_number Label = 6
 flaw_number End = 7
 
--- the fault of a line, before which so many lines stand: lines count from 1
+-- the fault of a line that has `before` lines before it; lines count from 1
 abbrev pub fault_at : (before : ℕ) → Slip → MovesFault
 fault_at before (slips.Flaw flaw) = At (before + 1) flaw
 fault_at before slips.Memory = Memory

@@ -1,4 +1,4 @@
--- What the first word of a line says that the line is.
+-- What a line is, by its first word.
 use Rattle.std.specs.Prelude.{ℕ, List, Option, Some, None, option_map, codes, if◌then◌else◌}
 use Rattle.std.specs.Str.{bytes_eq}
 use Rattle.bb_moves.specs.declared.keyword.Keyword.{Keyword}
@@ -20,7 +20,7 @@ ask_word_of word =
     else if bytes_eq word (codes "say") then Some Say
     else None
 
--- a line of a move, the end of asks, or an ask
+-- a move, the end of asks, or an ask
 unfoldable pub keyword_of : List ℕ → Option Keyword
 keyword_of word =
     if bytes_eq word (codes "turn") then Some Turn

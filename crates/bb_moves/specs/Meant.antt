@@ -7,14 +7,14 @@ use Rattle.bb_shell.specs.Plan.{Plan}
 use Rattle.bb_moves.specs.declared.moves.Move.{Move as Kept}
 use Rattle.bb_moves.specs.declared.moves.Move.TheVariants.{Turn, Advance, Post, Answer}
 
--- the move of the machine that a host kept
+-- the machine's move for a move that a host kept
 abbrev pub meant : Kept → Move
 meant Turn = one_turn
 meant (Advance cycles) = advance cycles
 meant (Post asks) = post asks.items
 meant (Answer asks) = answer asks.items
 
--- what the start of a run emits, and then moves one after another, and where the run stands after them
+-- what the start of a run and then moves in sequence emit, and the run's state after them
 abbrev pub replayed : Plan → (start : Moved) → List Move → Moved
 replayed plan start moves =
     let others = played plan moves start.standing in

@@ -1,5 +1,5 @@
--- The moves that a text spells, or its first fault: one line after another, from the top. A move is a line, but for a
--- post and an answer: these have a line for each of their asks, between `post` or `answer` and `end`.
+-- The moves of a text, or its first fault: line by line, from the top. A move is one line, except for a post and an
+-- answer: these have a line for each of their asks, between `post` or `answer` and `end`.
 use Rattle.std.specs.Prelude.{ℕ, Bool, true, ◌+◌, ◌==◌, List, [], ◌∷◌, ◌++◌, length, Option, Some, None, Result}
 use Rattle.std.specs.Prelude.{Ok, Err, if◌then◌else◌}
 use Rattle.std.specs.Str.{trim}
@@ -22,7 +22,7 @@ use Rattle.bb_moves.specs.declared.keyword.Gathering.TheVariants as gatherings
 use Rattle.bb_moves.specs.declared.keyword.Keyword.{Keyword}
 use Rattle.bb_moves.specs.declared.keyword.Keyword.TheVariants as keywords
 
--- asks that are gathered, and what for
+-- gathered asks, and what they are gathered for
 pub record Asks : Type 0 where
   pub gathering : Gathering
   pub asks : List Ask
@@ -35,21 +35,21 @@ move_by gatherings.Answer asks = answer asks
 abbrev pub move_of : Asks → Move
 move_of g = move_by g.gathering g.asks
 
--- an ask more
+-- another ask
 abbrev pub one_more : Asks → Ask → Asks
 one_more g ask = record { gathering = g.gathering; asks = g.asks ++ ask ∷ [] }
 
 -- what was read so far
 pub record Progress : Type 0 where
   pub moves : List Move
-  -- the asks whose `end` is still to come
+  -- the asks whose `end` is yet to come
   pub gathered : Option Asks
 
 -- nothing was read
 abbrev pub nothing_read : Progress
 nothing_read = record { moves = []; gathered = None }
 
--- a move more
+-- another move
 abbrev pub with_move : Progress → Move → Progress
 with_move p m = record { moves = p.moves ++ m ∷ []; gathered = p.gathered }
 
@@ -57,7 +57,7 @@ with_move p m = record { moves = p.moves ++ m ∷ []; gathered = p.gathered }
 abbrev pub with_asks : Progress → Asks → Progress
 with_asks p g = record { moves = p.moves; gathered = Some g }
 
--- a line says nothing that is empty, or begins with `#`
+-- a line has no meaning if it is empty or begins with `#`
 abbrev pub says_nothing : List ℕ → Bool
 says_nothing [] = true
 says_nothing (b ∷ bs) = b == 35
@@ -76,13 +76,13 @@ after_move p (keywords.Gather gathering) text = do
 after_move p keywords.End text = Err (Flaw Place)
 after_move p (keywords.Ask word) text = Err (Flaw Place)
 
--- after a line where no asks are gathered
+-- after a line while no asks are gathered
 unfoldable pub outside : Progress → List ℕ → Result Progress Slip
 outside p line = do
   keyword ← ok_or (keyword_of (first line)) (Flaw Word)
   after_move p keyword (behind line)
 
--- after an ask, or `end`, where these asks are gathered
+-- after an ask, or `end`, while these asks are gathered
 abbrev pub after_ask : Schema → Progress → Asks → Keyword → List ℕ → Result Progress Slip
 after_ask schema p g (keywords.Ask word) text = do
   ask ← ask_of schema word text
@@ -94,24 +94,24 @@ after_ask schema p g keywords.Turn text = Err (Flaw Place)
 after_ask schema p g keywords.Advance text = Err (Flaw Place)
 after_ask schema p g (keywords.Gather gathering) text = Err (Flaw Place)
 
--- after a line where these asks are gathered
+-- after a line while these asks are gathered
 unfoldable pub inside : Schema → Progress → Asks → List ℕ → Result Progress Slip
 inside schema p g line = do
   keyword ← ok_or (keyword_of (first line)) (Flaw Word)
   after_ask schema p g keyword (behind line)
 
--- after a line that says something, where the asks that are gathered are apart
+-- after a line with a meaning, with the gathered asks given apart
 abbrev pub after_words : Schema → Progress → Option Asks → List ℕ → Result Progress Slip
 after_words schema p None line = outside p line
 after_words schema p (Some g) line = inside schema p g line
 
--- after a line; white space at its ends says nothing
+-- after a line; white space at its ends has no meaning
 unfoldable pub after_line : Schema → Progress → List ℕ → Result Progress Slip
 after_line schema p line =
     if says_nothing (trim line) then Ok p
     else after_words schema (record { moves = p.moves; gathered = None }) p.gathered (trim line)
 
--- the moves, where no asks are gathered; the line of a fault is the one after the last
+-- the moves, if no asks are gathered; else the line of the fault is the one after the last
 abbrev pub all_ended : (lines : ℕ) → List Move → Option Asks → Result (List Move) MovesFault
 all_ended lines moves None = Ok moves
 all_ended lines moves (Some g) = Err (At (lines + 1) Open)

@@ -1,4 +1,4 @@
--- The value that the last operand of `set` spells, as a trace writes values, a label with its set before it.
+-- The value of the last operand of `set`, in the form in which a trace writes values, but a label follows its set.
 use Rattle.std.specs.Prelude.{ℕ, ℤ, int_le, List, Option, Some, None, option_and_then, option_map, Result, Ok, Err}
 use Rattle.std.specs.Prelude.{if◌then◌else◌}
 use Rattle.serde_json.specs.Data.{Data, null, boolean, number, string, array, object, Items, no_items, item}
@@ -18,13 +18,13 @@ use Rattle.bb_moves.specs.declared.fault.Slip.TheVariants.{Flaw}
 abbrev pub whole : Data → Option ℤ
 whole json = option_and_then as_i64 (as_number json)
 
--- two numbers, the first no greater than the second
+-- two numbers, the first not greater than the second
 abbrev pub ends_of : Items → Option (ℤ × ℤ)
 ends_of (item low (item high no_items)) =
     option_and_then (λ l. option_and_then (λ h. if int_le l h then Some (l, h) else None) (whole high)) (whole low)
 ends_of _ = None
 
--- the value that JSON spells: a truth, a number, a text, or an interval by its two ends
+-- the value of JSON data: a truth value, a number, a text, or an interval by its two ends
 abbrev pub plain_value : Data → Result Value Slip
 plain_value (boolean b) = Ok (Truth b)
 plain_value (number n) = ok_or (option_map Int (as_i64 n)) (Flaw NoValue)
@@ -42,16 +42,16 @@ label_of schema text = do
     label ← ok_or (label_named schema set parts.1) (Flaw NoLabel)
     Ok (Label set label)) else Err (Flaw NoValue)
 
--- what is JSON is a plain value, and all else a label
+-- JSON is a plain value, and everything else is a label
 abbrev pub value_by : Schema → List ℕ → Option Data → Result Value Slip
 value_by schema text (Some json) = plain_value json
 value_by schema text None = label_of schema text
 
--- the value that a text spells
+-- the value of a text
 unfoldable pub value_of : Schema → List ℕ → Result Value Slip
 value_of schema text = value_by schema text (read text)
 
--- the text that a text in quotes spells
+-- the contents of a text in quotes
 unfoldable pub text_of : List ℕ → Result (List ℕ) Slip
 text_of text = do
   json ← ok_or (read text) (Flaw NoValue)

@@ -1,4 +1,4 @@
--- The words of a line: one space parts each two, and the last operand is all that is left.
+-- The words of a line: one space separates two words, and the last operand is everything that is left.
 use Rattle.std.specs.Prelude.{ℕ, ◌^◌, ◌==◌, nat_lt, List, [], ◌∷◌, length, Option, Some, None, option_map}
 use Rattle.std.specs.Prelude.{option_and_then, Result, Ok, Err, if◌then◌else◌}
 use Rattle.std.specs.Option.{option_map_or}
@@ -10,16 +10,16 @@ use Rattle.bb_moves.specs.declared.fault.MovesFlaw.TheVariants.{Word, Name, Numb
 use Rattle.bb_moves.specs.declared.fault.Slip.{Slip}
 use Rattle.bb_moves.specs.declared.fault.Slip.TheVariants.{Flaw}
 
--- what comes before the first byte of this number, and what comes after it
+-- what comes before the first byte with this number, and what comes after it
 unfoldable pub split_at : (byte : ℕ) → List ℕ → Option (List ℕ × List ℕ)
 split_at byte [] = None
 split_at byte (b ∷ bs) = if b == byte then Some ([], bs) else option_map (λ p. (b ∷ p.0, p.1)) (split_at byte bs)
 
--- the first word of a text: where there is no space, the text
+-- the first word of a text; the whole text if it has no space
 abbrev pub first : List ℕ → List ℕ
 first text = option_map_or (λ p. p.0) (split_at 32 text) text
 
--- what comes behind the space after it: where there is none, nothing
+-- what comes after the first space; nothing if there is none
 abbrev pub behind : List ℕ → List ℕ
 behind text = option_map_or (λ p. p.1) (split_at 32 text) []
 
@@ -27,17 +27,17 @@ behind text = option_map_or (λ p. p.1) (split_at 32 text) []
 abbrev pub nothing_in : List ℕ → Result (Unit {0}) Slip
 nothing_in text = if length text == 0 then Ok tt else Err (Flaw Word)
 
--- the name that a text is
+-- a text that is a name
 unfoldable pub name_of : List ℕ → Result (List ℕ) Slip
 name_of text = if is_name text then Ok text else Err (Flaw Name)
 
--- the number that a text is, as JSON writes it, of 64 bits
+-- a text that is a number, as JSON writes it, of 64 bits
 unfoldable pub number_of : List ℕ → Result ℕ Slip
 number_of text = do
   json ← ok_or (read text) (Flaw Number)
   ok_or (option_and_then as_u64 (as_number json)) (Flaw Number)
 
--- the number of cycles that a text is: a number of 32 bits
+-- a text that is a number of cycles, of 32 bits
 unfoldable pub count_of : List ℕ → Result ℕ Slip
 count_of text = do
   number ← number_of text

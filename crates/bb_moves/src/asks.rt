@@ -1,5 +1,5 @@
-//! The asks of a post or an answer, each from the words behind its first one. Lines inside one (reading.rt) are read by
-//! it.
+//! Reads the asks of a post or an answer, each from the words after its first one. reading.rt calls it for lines inside
+//! one.
 
 ghost use Rattle.std.specs.Prelude.{◌≡◌};
 ghost use Rattle.bb_basis.specs.Results.{Gives};
@@ -15,7 +15,7 @@ use bb_schema::Schema;
 use bb_shell::Ask;
 use std::alloc::Global;
 
-/// The ask of a word, from what comes behind the word.
+/// Reads the ask of a word from the text after the word.
 pub(crate) fn read_ask(
     alloc: Global,
     schema: &Schema,

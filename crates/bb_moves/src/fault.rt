@@ -1,4 +1,4 @@
-//! Why a text is no history. Hosts that read one show it.
+//! Why a text is not a history. Hosts that read one show it.
 
 ghost use Rattle.std.specs.Prelude.{◌≡◌, ◌+◌, ◌<◌, ◌^◌};
 ghost use Rattle.bb_basis.specs.Results.{map_err};
@@ -11,23 +11,23 @@ use thiserror::Error;
 /// What is wrong with a line of a history.
 #[derive(Clone, Copy, Debug, PartialEq, Eq, Error)]
 pub enum MovesFlaw {
-    /// The first word of the line is none of a move or an ask, or a word follows that `turn`, `post`, `answer` and
-    /// `end` don't have.
+    /// The first word of the line begins neither a move nor an ask, or a word follows `turn`, `post`, `answer` or
+    /// `end`.
     #[error("the line is neither a move nor an ask")]
     Word,
     /// The line is a move inside a post or an answer, or an ask or `end` outside one.
     #[error("a move stands inside a post or an answer, or an ask or `end` outside one")]
     Place,
-    /// A name is due: of a class, a slot or a space.
+    /// A name is expected: of a class, a slot or a space.
     #[error("a name is due: a letter from a to z, then letters, digits and `_`, at most 31 in all")]
     Name,
-    /// A number is due: of a unit, of 64 bits, or of cycles, of 32 bits.
+    /// A number is expected: of a unit, 64 bits, or of cycles, 32 bits.
     #[error("a whole number is due, of at most 64 bits for a unit, and 32 for cycles")]
     Number,
-    /// A value is due.
+    /// A value is expected.
     #[error("a value is due: a number of 64 bits, a truth, a text in quotes, an interval, or SET:LABEL")]
     Value,
-    /// The schema has no such label set, or the set no such label.
+    /// The schema has no such label set, or the set has no such label.
     #[error("the schema has no such label")]
     Label,
     /// The text ends inside a post or an answer. The line is the one after the last.
@@ -36,7 +36,7 @@ pub enum MovesFlaw {
 }
 
 impl MovesFlaw {
-    /// The number of the flaw, from 1 to 7.
+    /// Returns the number of the flaw, from 1 to 7.
     pub fn number(self) -> u8
         ensures { result ≡ flaw_number self }
     {
@@ -52,10 +52,10 @@ impl MovesFlaw {
     }
 }
 
-/// Why a text is no history: the first fault from the top.
+/// Why a text is not a history: the first fault from the top.
 #[derive(Clone, Copy, Debug, PartialEq, Eq, Error)]
 pub enum MovesFault {
-    /// A line is wrong. Lines count from 1, those that say nothing too.
+    /// A line is wrong. Lines count from 1, including blank lines and comments.
     #[error("line {line}: {flaw}")]
     At { line: u64, flaw: MovesFlaw },
     /// Memory ran out.
@@ -63,7 +63,7 @@ pub enum MovesFault {
     Memory,
 }
 
-/// Why a line can't be read, wherever it stands.
+/// Why a line can't be read, without its number.
 #[derive(Clone, Copy, Debug, PartialEq, Eq)]
 pub(crate) enum Slip {
     /// The line is wrong.
@@ -73,7 +73,7 @@ pub(crate) enum Slip {
 }
 
 impl Slip {
-    // The fault of a line, before which so many lines stand.
+    // The fault of a line that has `before` lines before it.
     fn at(self, before: u64) -> MovesFault
         requires { before + 1 < 2 ^ 64 }
         ensures { result ≡ fault_at before self }
@@ -88,7 +88,7 @@ impl Slip {
     }
 }
 
-/// What came of a line, before which so many lines stand.
+/// Returns the outcome of a line that has `before` lines before it.
 pub(crate) fn placed(answer: Result<(), Slip>, before: u64) -> Result<(), MovesFault>
     requires { before + 1 < 2 ^ 64 }
     ensures { result ≡ map_err (fault_at before) answer }

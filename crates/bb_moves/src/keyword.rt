@@ -1,4 +1,4 @@
-//! What the first word of a line says that the line is. Lines (reading.rt) are told apart by it.
+//! What a line is, by its first word. reading.rt tells lines apart by it.
 
 ghost use Rattle.std.specs.Prelude.{◌≡◌};
 ghost use Rattle.bb_moves.specs.Keywords.{ask_word_of, keyword_of};
@@ -18,7 +18,7 @@ pub(crate) enum Keyword {
     Ask(AskWord),
 }
 
-/// What asks are gathered for, up to their `end`.
+/// What asks are gathered for, until their `end`.
 #[derive(Clone, Copy, PartialEq)]
 pub(crate) enum Gathering {
     /// `post`
@@ -79,7 +79,7 @@ fn ask_word_of(word: &str) -> Option<AskWord>
     None
 }
 
-/// What a line is that begins with a word.
+/// Returns what a line is that begins with a word.
 #[tactic(auto, unfolding(crate::specs::Keywords::keyword_of))]
 pub(crate) fn keyword_of(word: &str) -> Option<Keyword>
     ensures { result ≡ keyword_of word.now }

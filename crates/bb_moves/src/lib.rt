@@ -1,10 +1,11 @@
-//! Histories of held runs: the moves of a host as values and as text, and the run that they make.
+//! Replay of held runs: the moves of a host as values and as text, and the run that they make.
 //!
 //! - In: a shell, moves or their text, and an output.
-//! - Out: `replay` and, where the host answers for natives, `replay_hosted`: the run that stands after moves, with its
-//!   trace written; `play`, which makes moves of a run that is held already; `moves_of`, the moves that a text spells, or its first `MovesFault`.
-//! - Callers rely on: trace and run are those of the abstract blackboard machine for the same history. So a host that
-//!   keeps its moves has its run again, with its agenda and all numbers.
+//! - Out: `replay` and, if the host answers for natives, `replay_hosted`: the run after the moves, with its trace
+//!   written. `play` makes moves of a run that is already held. `moves_of` reads the moves of a text, or returns its
+//!   first `MovesFault`.
+//! - Callers rely on: trace and run are those of the abstract blackboard machine for the same history. A host that
+//!   keeps its moves can therefore restore its run, with its agenda and all numbers.
 //! - Cases: `moves`, `moves_full`, `moves_refused`.
 #![tactic(auto)]
 

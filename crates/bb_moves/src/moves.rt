@@ -2,15 +2,15 @@
 
 use bb_shell::Ask;
 
-/// What a host has a run do between its start and its finish.
+/// What a host lets a run do between its start and its finish.
 #[derive(Debug, PartialEq, Drop)]
 pub enum Move {
-    /// A cycle, or quiescence where nothing can be chosen.
+    /// A cycle, or quiescence if nothing can be chosen.
     Turn,
-    /// At most so many cycles more, and quiescence after them where nothing can be chosen then.
+    /// Up to this many more cycles, then quiescence if nothing can be chosen.
     Advance(u32),
-    /// What happened in the world outside.
+    /// Asks about what happened outside.
     Post(Vec<Ask>),
-    /// What the native asks that is due.
+    /// The asks of the native that is due.
     Answer(Vec<Ask>),
 }

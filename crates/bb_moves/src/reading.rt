@@ -1,4 +1,4 @@
-//! The history that a text spells, line by line. Hosts call `moves_of`.
+//! Reads the history of a text, line by line. Hosts call `moves_of`.
 
 ghost use Rattle.std.specs.Prelude.{◌≡◌, ◌+◌, ◌++◌, ◌∷◌, [], ◌<◌, ◌^◌, Ok, map};
 ghost use Rattle.bb_basis.specs.Results.{Gives};
@@ -19,7 +19,7 @@ use bb_schema::Schema;
 use bb_shell::Ask;
 use std::alloc::Global;
 
-// Asks whose `end` is still to come, and what they are gathered for.
+// Asks whose `end` is yet to come, and what they are gathered for.
 #[derive(Drop)]
 struct Gathered {
     gathering: Gathering,
@@ -27,7 +27,7 @@ struct Gathered {
 }
 
 impl Gathered {
-    // None so far.
+    // No asks yet.
     fn new(alloc: Global, gathering: Gathering) -> Gathered
         ensures { asks_so_far result ≡ record { gathering = gathering; asks = [] } }
     {
@@ -37,7 +37,7 @@ impl Gathered {
         }
     }
 
-    // The move, once all are there.
+    // The move, once all asks are read.
     fn into_move(self) -> Move
         ensures { meant result ≡ move_of (asks_so_far self) }
     {
@@ -48,14 +48,14 @@ impl Gathered {
     }
 }
 
-// What was read so far: the moves, and asks whose `end` is still to come.
+// What was read so far: the moves, and asks whose `end` is yet to come.
 #[derive(Drop)]
 struct Reading {
     moves: Vec<Move>,
     gathered: Option<Gathered>,
 }
 
-// Whether a line says nothing: it is empty, or begins with `#`.
+// Whether a line is empty or begins with `#`.
 fn says_nothing(line: &str) -> bool
     ensures { result ≡ says_nothing line.now }
 {
@@ -75,7 +75,7 @@ impl Reading {
         }
     }
 
-    // A move more.
+    // Adds a move.
     fn add(&mut self, each: Move) -> Result<(), Slip>
         ensures { Gives OutOfMemory (λ _. so_far self.new) result (Ok (with_move (so_far self.old) (meant each))) }
     {
@@ -83,14 +83,14 @@ impl Reading {
         Ok(())
     }
 
-    // Asks that are gathered.
+    // Sets the asks that are gathered.
     fn gather(&mut self, gathered: Gathered)
         ensures { so_far self.new ≡ with_asks (so_far self.old) (asks_so_far gathered) }
     {
         self.gathered = Some(gathered);
     }
 
-    // `turn`, `advance N`, `post` or `answer`
+    // Reads `turn`, `advance N`, `post` or `answer`.
     #[tactic(auto, unfolding(crate::specs::MovesText::after_move))]
     fn read_move(&mut self, alloc: Global, keyword: Keyword, text: &str) -> Result<(), Slip>
         ensures { Gives OutOfMemory (λ _. so_far self.new) result (after_move (so_far self.old) keyword text.now) }
@@ -113,7 +113,7 @@ impl Reading {
         }
     }
 
-    // A line where no asks are gathered.
+    // Reads a line while no asks are gathered.
     #[tactic(auto, unfolding(crate::specs::MovesText::outside))]
     fn read_outside(&mut self, alloc: Global, line: &str) -> Result<(), Slip>
         ensures { Gives OutOfMemory (λ _. so_far self.new) result (outside (so_far self.old) line.now) }
@@ -123,7 +123,7 @@ impl Reading {
         self.read_move(alloc, keyword, text)
     }
 
-    // An ask more of those that are gathered.
+    // Adds an ask to the gathered ones.
     fn add_ask(&mut self, mut gathered: Gathered, ask: Ask) -> Result<(), Slip>
         ensures { Gives OutOfMemory (λ _. so_far self.new) result
             (Ok (with_asks (so_far self.old) (one_more (asks_so_far gathered) ask))) }
@@ -133,7 +133,7 @@ impl Reading {
         Ok(())
     }
 
-    // A line where these asks are gathered: an ask more, or `end`.
+    // Reads a line while these asks are gathered: another ask, or `end`.
     #[tactic(auto, unfolding(crate::specs::MovesText::inside))]
     fn read_inside(
         &mut self,
@@ -175,7 +175,7 @@ impl Reading {
         }
     }
 
-    // The moves, where no asks are gathered. The text has so many lines.
+    // The moves, if no asks are gathered. The text has `lines` lines.
     fn finish(self, lines: u64) -> Result<Vec<Move>, MovesFault>
         requires { lines + 1 < 2 ^ 64 }
         ensures { Gives NoMemory (λ v. map meant v.items) result (at_end lines (so_far self)) }
@@ -191,8 +191,8 @@ impl Reading {
     }
 }
 
-/// The moves that a text spells, or the first fault from the top. Labels are those of the schema. `Memory` may come at
-/// any point.
+/// Reads the moves of a text, or returns the first fault from the top. Labels are those of the schema. `Memory` can
+/// occur at any point.
 #[tactic(auto, unfolding(crate::specs::MovesText::moves_of))]
 pub fn moves_of(alloc: Global, schema: &Schema, text: &str) -> Result<Vec<Move>, MovesFault>
     ensures { Gives NoMemory (λ v. map meant v.items) result (moves_of schema.now text.now) }

@@ -1,4 +1,4 @@
-//! Moves are made one after another: of a run that is held, or of one from its start. Hosts call `play`, `replay` and
+//! Makes moves in sequence: of a run that is held, or of one from its start. Hosts call `play`, `replay` and
 //! `replay_hosted`.
 
 ghost use Rattle.std.specs.Prelude.{◌≡◌, None, false, map, IfOk};
@@ -12,8 +12,8 @@ use bb_run_held::{Pause, Running};
 use bb_shell::{Halt, HostedShell, NativeSource, Out, Shell};
 use std::alloc::Global;
 
-/// Makes moves of a run, one after another. One that can't be made where the run stands changes nothing. `Memory`,
-/// `Write`: the run is cut short in one of them.
+/// Makes moves of a run, in sequence. A move that can't be made in the run's state changes nothing. `Memory`, `Write`:
+/// the run is cut short in one of them.
 pub fn play<N: NativeSource, O: Out>(
     running: &mut Running<N>,
     moves: Vec<Move>,
@@ -57,8 +57,8 @@ fn make<N: NativeSource, O: Out>(
     }
 }
 
-/// Begins the run of a shell and makes moves of it, one after another. So a host that kept the moves that it made has
-/// its run again. `Memory`: memory ran out. `Write`: the output failed. Then each native is closed, in order, and the
+/// Begins the run of a shell and makes its moves in sequence. A host that kept its moves can so restore its run.
+/// `Memory`: memory ran out. `Write`: the output failed. After an error every native is closed, in order, and the
 /// blackboard is dropped.
 pub fn replay<N: NativeSource, O: Out>(
     alloc: Global,
@@ -78,8 +78,8 @@ pub fn replay<N: NativeSource, O: Out>(
     go_on(running, moves, out)
 }
 
-/// Begins the run of a shell whose host answers for natives and makes moves of it, as `replay` does: what the host
-/// answered is among them.
+/// Begins the run of a shell whose host answers for natives, and makes its moves as `replay` does. The moves include
+/// the host's answers.
 pub fn replay_hosted<N: NativeSource, O: Out>(
     alloc: Global,
     shell: HostedShell<N>,
@@ -98,7 +98,7 @@ pub fn replay_hosted<N: NativeSource, O: Out>(
     go_on(running, moves, out)
 }
 
-// Makes moves of a run that was begun. Where one of them is cut short, the run is closed.
+// Makes moves of a run that was begun. If one of them is cut short, the run is closed.
 fn go_on<N: NativeSource, O: Out>(
     mut running: Running<N>,
     moves: Vec<Move>,

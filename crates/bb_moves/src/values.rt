@@ -1,4 +1,4 @@
-//! The value that a `set` spells, as a trace writes values, a label with its set before it.
+//! Reads the value of a `set`, in the form in which a trace writes values, but a label follows its set.
 
 ghost use Rattle.std.specs.Prelude.{◌≡◌, map, option_map};
 ghost use Rattle.serde_json.specs.View.{items_view, view};
@@ -17,7 +17,7 @@ const NO_VALUE: Slip = Slip::Flaw(MovesFlaw::Value);
 
 const NO_LABEL: Slip = Slip::Flaw(MovesFlaw::Label);
 
-/// The value that a text spells.
+/// Reads the value of a text.
 #[tactic(auto, unfolding(crate::specs::Values::value_of))]
 pub(crate) fn read_value(alloc: Global, schema: &Schema, text: &str) -> Result<Value, Slip>
     ensures { Gives OutOfMemory (λ v. v) result (value_of schema.now text.now) }
@@ -28,7 +28,7 @@ pub(crate) fn read_value(alloc: Global, schema: &Schema, text: &str) -> Result<V
     }
 }
 
-/// The text that a text in quotes spells.
+/// Reads a text in quotes.
 #[tactic(auto, unfolding(crate::specs::Values::text_of))]
 pub(crate) fn read_text(alloc: Global, text: &str) -> Result<Text, Slip>
     ensures { Gives OutOfMemory (λ t. t) result (text_of text.now) }
@@ -54,7 +54,7 @@ fn read_plain_value(alloc: Global, json: &Json) -> Result<Value, Slip>
     }
 }
 
-// Two numbers, the first no greater than the second.
+// Two numbers, the first not greater than the second.
 fn interval(ends: &[Json]) -> Option<(i64, i64)>
     ensures { result ≡ ends_of (items_view ends.now) }
 {

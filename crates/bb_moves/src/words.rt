@@ -1,4 +1,4 @@
-//! The words of a line, and what one of them spells. Lines (reading.rt) and asks (asks.rt) are made of them.
+//! Reads the words of a line. Lines (reading.rt) and asks (asks.rt) consist of them.
 
 ghost use Rattle.std.specs.Prelude.{◌≡◌, option_map, Ok};
 ghost use Rattle.serde_json.specs.Read.{read};
@@ -12,21 +12,21 @@ use bb_basis::{Text, is_name};
 use serde_json::Value as Json;
 use std::alloc::Global;
 
-// What comes before the first space of a text, and what comes after it.
+// The parts of a text before and after its first space.
 fn split_at_space(text: &str) -> Option<(&str, &str)>
     ensures { option_map (λ p. (p.0.now, p.1.now)) result ≡ split_at 32 text.now }
 {
     text.split_once(' ')
 }
 
-/// What comes before the first colon of a text, and what comes after it.
+/// Returns the parts of a text before and after its first colon.
 pub(crate) fn split_at_colon(text: &str) -> Option<(&str, &str)>
     ensures { option_map (λ p. (p.0.now, p.1.now)) result ≡ split_at 58 text.now }
 {
     text.split_once(':')
 }
 
-/// The first word of a text, and what comes behind the space after it.
+/// Returns the first word of a text, and what comes after the space that follows it.
 pub(crate) fn first_word(text: &str) -> (&str, &str)
     ensures first { result.0.now ≡ first text.now }
     ensures behind { result.1.now ≡ behind text.now }
@@ -48,7 +48,7 @@ pub(crate) fn read_nothing(text: &str) -> Result<(), Slip>
     }
 }
 
-/// The name that a text is.
+/// Reads a text that is a name.
 #[tactic(auto, unfolding(crate::specs::Words::name_of))]
 pub(crate) fn read_name(alloc: Global, text: &str) -> Result<Text, Slip>
     ensures { Gives OutOfMemory (λ t. t) result (name_of text.now) }
@@ -59,7 +59,7 @@ pub(crate) fn read_name(alloc: Global, text: &str) -> Result<Text, Slip>
     Ok(Text::from_str(alloc, text)?)
 }
 
-/// The JSON value that a text is, if it is one.
+/// Reads a text that is a JSON value, if it is one.
 pub(crate) fn read_json(alloc: Global, text: &str) -> Result<Option<Json>, Slip>
     ensures { Gives OutOfMemory (option_map view) result (Ok (read text.now)) }
 {
@@ -70,7 +70,7 @@ pub(crate) fn read_json(alloc: Global, text: &str) -> Result<Option<Json>, Slip>
     }
 }
 
-/// The number that a text is.
+/// Reads a text that is a number of 64 bits.
 #[tactic(auto, unfolding(crate::specs::Words::number_of))]
 pub(crate) fn read_number(alloc: Global, text: &str) -> Result<u64, Slip>
     ensures { Gives OutOfMemory (λ n. n) result (number_of text.now) }
@@ -80,7 +80,7 @@ pub(crate) fn read_number(alloc: Global, text: &str) -> Result<u64, Slip>
     Ok(number)
 }
 
-/// The number of cycles that a text is.
+/// Reads a text that is a number of cycles, of 32 bits.
 #[tactic(auto, unfolding(crate::specs::Words::count_of))]
 pub(crate) fn read_count(alloc: Global, text: &str) -> Result<u32, Slip>
     ensures { Gives OutOfMemory (λ n. n) result (count_of text.now) }

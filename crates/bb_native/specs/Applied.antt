@@ -1,4 +1,4 @@
--- What an ask makes of a blackboard as it then stands, or the first reason why it is refused. Names are looked up here.
+-- The blackboard after an ask is applied, or the first reason why it is not applied. Names are looked up here.
 use Rattle.std.specs.Prelude.{◌≡◌, ◌⊎◌, ℕ, List, [], ◌∷◌, length, nat_le, Result, Ok, Err, if◌then◌else◌}
 use Rattle.bb_basis.specs.Results.{◌>>=◌, ok_or, map_err}
 use Rattle.bb_schema_classes.specs.declared.value.Value.{Value}
@@ -20,19 +20,19 @@ use Rattle.bb_native.specs.declared.denial.Denial.{Denial}
 use Rattle.bb_native.specs.declared.denial.Denial.TheVariants.{Refused, Full, Memory}
 use Rattle.bb_native.specs.Refusals.{denial_of, denial_of_create}
 
--- a unit that is named is live
+-- refuses a unit that is not live
 unfoldable pub live : Board → (unit : ℕ) → Result (Unit {0}) Denial
 live b n = if is_live b.world.units n then Ok tt else Err (Refused Deleted)
 
--- the slot of this name that a unit's class has
+-- the slot with this name in a unit's class
 unfoldable pub slot_due : Board → (unit : ℕ) → (name : List ℕ) → Result ℕ Denial
 slot_due b n name = ok_or (slot_named b.schema (class_at b.world n) name) (Refused Slot)
 
--- the space of this name
+-- the space with this name
 unfoldable pub space_due : Board → (name : List ℕ) → Result ℕ Denial
 space_due b name = ok_or (space_named b.schema name) (Refused Space)
 
--- the class of this name
+-- the class with this name
 unfoldable pub class_due : Board → (name : List ℕ) → Result ℕ Denial
 class_due b name = ok_or (class_named b.schema name) (Refused Class)
 
@@ -43,7 +43,7 @@ set b n name value = do
   _ ← map_err denial_of (may_set b.world n slot value)
   Ok (with_world b (after_set b.schema b.world n slot value))
 
--- the link slot of this name that may link two units
+-- the slot with this name, by which two live units may be linked
 unfoldable pub link_due : Board → (unit : ℕ) → (slot : List ℕ) → (other : ℕ) → Result ℕ Denial
 link_due b n name m = do
   _ ← live b n
@@ -86,13 +86,13 @@ delete b n = do
   _ ← live b n
   Ok (with_world b (after_delete b.schema b.world n))
 
--- a text that is not too long is said
+-- says a text, if it is not too long
 unfoldable pub say : Board → (text : List ℕ) → Result Board Denial
 say b text =
     if nat_le (length text) TEXT_LIMIT then Ok (with_world b (after_say b.world (saids.Value (values.Text text) ∷ [])))
     else Err (Refused Kind)
 
--- the blackboard after an ask, or why this is not applied
+-- the blackboard after an ask, or why the ask is not applied
 abbrev pub applied : Ask → Board → Result Board Denial
 applied (asks.Set n slot value) b = set b n slot value
 applied (asks.Link n slot m) b = link b n slot m
@@ -103,8 +103,8 @@ applied (asks.New class) b = create b class
 applied (asks.Delete n) b = delete b n
 applied (asks.Say text) b = say b text
 
--- what an ask that was not applied leaves: the blackboard as it was, which takes no more changes once memory was
--- refused to this one
+-- the blackboard after an ask that was not applied: unchanged, or, if memory ran out, unchanged except that it may
+-- accept no more changes
 abbrev pub Leaves : Denial → (old new : Board) → Type 0
 Leaves (Refused refusal) old new = new ≡ old
 Leaves Full old new = new ≡ old

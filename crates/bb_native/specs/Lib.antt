@@ -1,12 +1,12 @@
--- what a native sees
+-- the view that a native has of a blackboard
 pub mod Sight
--- what a native means
+-- the meaning of a native
 pub mod Native
--- what a roster of natives means, and what calls and closings make of it
+-- the meaning of a roster of natives, and its calls and closings
 pub mod Roster
 -- why an ask is not applied
 pub mod Refusals
--- what an ask makes of a blackboard
+-- the blackboard after an ask
 pub mod Applied
--- what only models speak of
+-- definitions that only models use
 pub mod proving

@@ -1,4 +1,4 @@
--- Why asks are not applied: the numbers of refusals, and what reasons and faults of the blackboard come to.
+-- Why asks are not applied: the numbers of refusals, and the denials for reasons and faults of the blackboard.
 use Rattle.std.specs.Prelude.{ℕ}
 use Rattle.bb_units.specs.declared.fault.CreateFault.{CreateFault}
 use Rattle.bb_units.specs.declared.fault.CreateFault.TheVariants as creates
@@ -18,7 +18,7 @@ refusal_number LinkClass = 4
 refusal_number Space = 5
 refusal_number Class = 6
 
--- why a change may not be made, as the refusal of the ask for it
+-- the refusal of an ask for a change that may not be made
 abbrev pub refusal_of : Reason → Refusal
 refusal_of reasons.Deleted = Deleted
 refusal_of reasons.Slot = Slot
@@ -26,11 +26,11 @@ refusal_of reasons.Kind = Kind
 refusal_of reasons.LinkClass = LinkClass
 refusal_of reasons.Space = Space
 
--- why a change may not be made, as the denial of the ask for it
+-- the denial of an ask for a change that may not be made
 abbrev pub denial_of : Reason → Denial
 denial_of reason = Refused (refusal_of reason)
 
--- why a unit could not be created, as the denial of the ask for it
+-- the denial of an ask for a unit that could not be created
 abbrev pub denial_of_create : CreateFault → Denial
 denial_of_create creates.Full = Full
 denial_of_create creates.Memory = Memory

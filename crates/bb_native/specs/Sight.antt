@@ -1,4 +1,4 @@
--- What a native sees of a blackboard: its schema and its state, without what was noted.
+-- The view that a native has of a blackboard: its schema and its state, without its notes.
 use Rattle.bb_schema.specs.Schema.{Schema}
 use Rattle.bb_board.specs.State.{World}
 use Rattle.bb_board.specs.World.{after_take}
@@ -8,6 +8,6 @@ pub record Sight : Type 0 where
   pub schema : Schema
   pub world : World
 
--- what is seen of a blackboard
+-- the view of a blackboard
 abbrev pub sight_of : Board → Sight
 sight_of b = record { schema = b.schema; world = after_take b.world }

@@ -1,5 +1,5 @@
-//! What becomes of an ask. The caller of the native (bb_run) applies its asks one by one, each to the blackboard as it
-//! then stands.
+//! Applies asks. The caller of a native (bb_run) applies the native's asks one by one, each to the blackboard that the
+//! previous ask left.
 
 ghost use Rattle.std.specs.Prelude.{◌≡◌, ◌<◌, Ok, IfErr, IfOk, IsTrue, length};
 ghost use Rattle.bb_basis.specs.Results.{Gives};
@@ -17,8 +17,8 @@ use bb_board::{Board, Said};
 use bb_schema::{ClassId, SlotId, SpaceId, TEXT_LIMIT, UnitId, Value};
 use std::alloc::Global;
 
-/// Applies an ask to a blackboard, or returns the first reason why not: `Refused` and `Full` leave the blackboard as it
-/// was. After `Memory` it may take no more changes, or else it is as it was too.
+/// Applies an ask to a blackboard, or returns the first reason why it is not applied. `Refused`, `Full`: the blackboard
+/// is unchanged. `Memory`: it is unchanged too, except that it may accept no more changes.
 pub fn apply(alloc: Global, ask: Ask, board: &mut Board) -> Result<(), Denial>
     ensures gives { Gives OutOfMemory (λ _. board.new) result (applied ask board.old) }
     ensures err { IfErr result (λ denial. Leaves denial board.old board.new) }
@@ -36,7 +36,7 @@ pub fn apply(alloc: Global, ask: Ask, board: &mut Board) -> Result<(), Denial>
     }
 }
 
-// A unit that is live.
+// Refuses a unit that is not live.
 #[tactic(auto, unfolding(crate::specs::Applied::live))]
 fn live(board: &Board, unit: UnitId) -> Result<(), Denial>
     ensures gives { result ≡ def.live board.now unit }
@@ -48,7 +48,7 @@ fn live(board: &Board, unit: UnitId) -> Result<(), Denial>
     Ok(())
 }
 
-// The slot of a name that the class of a live unit has.
+// The slot with a name in the class of a live unit.
 #[tactic(auto, unfolding(crate::specs::Applied::slot_due))]
 fn slot_due(board: &Board, unit: UnitId, name: &Text) -> Result<SlotId, Denial>
     requires { IsTrue (is_live board.now.world.units unit) }
@@ -60,7 +60,7 @@ fn slot_due(board: &Board, unit: UnitId, name: &Text) -> Result<SlotId, Denial>
         .ok_or(Denial::Refused(Refusal::Slot))
 }
 
-// The space of a name.
+// The space with a name.
 #[tactic(auto, unfolding(crate::specs::Applied::space_due))]
 fn space_due(board: &Board, name: &Text) -> Result<SpaceId, Denial>
     ensures gives { result ≡ def.space_due board.now name.now }
@@ -72,7 +72,7 @@ fn space_due(board: &Board, name: &Text) -> Result<SpaceId, Denial>
         .ok_or(Denial::Refused(Refusal::Space))
 }
 
-// The class of a name.
+// The class with a name.
 #[tactic(auto, unfolding(crate::specs::Applied::class_due))]
 fn class_due(board: &Board, name: &Text) -> Result<ClassId, Denial>
     ensures gives { result ≡ def.class_due board.now name.now }
@@ -98,7 +98,7 @@ fn set(board: &mut Board, unit: UnitId, slot: &Text, value: Value) -> Result<(),
     Ok(())
 }
 
-// The slot of a name by which two units may be linked.
+// The slot with a name, by which two units may be linked.
 #[tactic(auto, unfolding(crate::specs::Applied::link_due))]
 fn link_due(board: &Board, unit: UnitId, slot: &Text, other: UnitId) -> Result<SlotId, Denial>
     ensures gives { result ≡ def.link_due board.now unit slot.now other }
@@ -123,7 +123,7 @@ fn link(board: &mut Board, unit: UnitId, slot: &Text, other: UnitId) -> Result<(
     Ok(())
 }
 
-// Takes the link of two units away.
+// Removes the link between two units.
 #[tactic(auto, unfolding(crate::specs::Applied::unlink))]
 fn unlink(board: &mut Board, unit: UnitId, slot: &Text, other: UnitId) -> Result<(), Denial>
     ensures gives { Gives OutOfMemory (λ _. board.new) result (def.unlink board.old unit slot.now other) }
@@ -135,7 +135,7 @@ fn unlink(board: &mut Board, unit: UnitId, slot: &Text, other: UnitId) -> Result
     Ok(())
 }
 
-// Lets a unit enter a space.
+// Makes a unit enter a space.
 #[tactic(auto, unfolding(crate::specs::Applied::enter))]
 fn enter(board: &mut Board, unit: UnitId, space: &Text) -> Result<(), Denial>
     ensures gives { Gives OutOfMemory (λ _. board.new) result (def.enter board.old unit space.now) }
@@ -149,7 +149,7 @@ fn enter(board: &mut Board, unit: UnitId, space: &Text) -> Result<(), Denial>
     Ok(())
 }
 
-// Lets a unit leave a space.
+// Makes a unit leave a space.
 #[tactic(auto, unfolding(crate::specs::Applied::leave))]
 fn leave(board: &mut Board, unit: UnitId, space: &Text) -> Result<(), Denial>
     ensures gives { Gives OutOfMemory (λ _. board.new) result (def.leave board.old unit space.now) }

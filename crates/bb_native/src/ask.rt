@@ -1,10 +1,10 @@
-//! What a native asks of the blackboard. Natives return lists of asks; their caller checks each and applies it.
+//! The changes that a native asks for. Natives return lists of asks; their caller checks and applies each ask.
 
 use bb_basis::Text;
 use bb_schema::{UnitId, Value};
 
-/// One change that a native asks for. Slots, spaces and classes go by their names, as texts: the native need not know
-/// that they are there, since each ask is checked before it is applied.
+/// A change that a native asks for. Slots, spaces and classes are given by name. They need not exist: each ask is
+/// checked before it is applied.
 #[derive(Debug, PartialEq, Drop)]
 pub enum Ask {
     /// Sets an ordinary slot of a unit.
@@ -19,7 +19,7 @@ pub enum Ask {
         slot: Text,
         other: UnitId,
     },
-    /// Takes a link of a unit to another away.
+    /// Removes the link of a unit to another.
     Unlink {
         unit: UnitId,
         slot: Text,
@@ -30,7 +30,7 @@ pub enum Ask {
         unit: UnitId,
         space: Text,
     },
-    /// Takes a unit out of a space.
+    /// Removes a unit from a space.
     Leave {
         unit: UnitId,
         space: Text,

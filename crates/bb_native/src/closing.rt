@@ -1,8 +1,8 @@
-//! What a native says at its close. `Roster::close_all` returns a list of these.
+//! The closing of a native: what it says when it is closed. `Roster::close_all` returns a list of these.
 
 use bb_basis::Text;
 
-/// A native that was closed: its name, and the number that it said.
+/// The name of a native, and the number that it said when it was closed; 0 before that.
 #[derive(Debug, PartialEq, Drop)]
 pub struct Closing {
     pub name: Text,

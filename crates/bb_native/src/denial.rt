@@ -1,4 +1,4 @@
-//! Why an ask of a native was not applied. `apply` returns it.
+//! The reasons why an ask of a native is not applied. `apply` returns them.
 
 ghost use Rattle.std.specs.Prelude.{◌≡◌};
 ghost use Rattle.bb_native.specs.declared.denial.Denial.TheVariants.{Memory as OutOfMemory};
@@ -14,7 +14,7 @@ use std::alloc::{AllocError, AllocFailed};
 pub enum Denial {
     /// The ask is refused.
     Refused(Refusal),
-    /// The ask is for a unit, and no more can be created.
+    /// The ask creates a unit, and no more units can be created.
     Full,
     /// Memory ran out.
     Memory,

@@ -1,8 +1,9 @@
-//! Natives: code of the host that runs in place of a source's `do`.
+//! Natives: code of the host that runs instead of a source's `do`.
 //!
-//! - In: what a host implements `NativeSource` for, handed in as a `Roster`.
-//! - Out: a `View` of the blackboard that a native sees, what it may `Ask`, and what becomes of an ask.
-//! - Callers rely on: a roster closes each of its natives exactly once, and an ask that is refused changes nothing.
+//! - In: a host's types that implement `NativeSource`, in a `Roster`.
+//! - Out: the `View` that a native has of the blackboard, the changes that it may `Ask` for, and `apply`, which applies
+//!   an ask.
+//! - Callers rely on: a roster closes every native exactly once, and a refused ask changes nothing.
 //! - Cases: `natives`; tests in bb_board_tests and bb_shell_tests.
 #![tactic(auto)]
 

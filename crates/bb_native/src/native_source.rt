@@ -1,4 +1,4 @@
-//! What a native is to a host that writes one. The roster calls it.
+//! The trait that a host implements for its natives. The roster calls it.
 
 ghost use Rattle.std.specs.Prelude.{◌≡◌, true, false, IfOk, OnOk, OnErr};
 
@@ -8,26 +8,27 @@ use bb_basis::Memory;
 use bb_schema::UnitId;
 use std::alloc::Global;
 
-/// Code of a host that a source runs in place of a `do`. What it means is a definition: its name, the whole numbers
-/// that it holds, whether it is open, and what it asks, holds next and says at its close.
+/// Code of a host that runs instead of a source's `do`. Its meaning is a definition: its name, the integers that it
+/// holds, whether it is open, and the functions for its asks, the integers it holds next, and the number it says when
+/// it is closed.
 pub trait NativeSource: Drop {
     ghost use Rattle.bb_native.specs.Native.{Native, asks_of, closing_of, after_act};
 
     ghost meaning: { Self → Native };
 
-    /// The name of the source that the native runs for.
+    /// Returns the name of the source that the native runs for.
     fn name(&self) -> &str
         ensures { result.now ≡ (meaning self.now).name };
 
-    /// What the native asks for a unit, with what it sees of the blackboard, in order. Then it holds its next list; an
-    /// error changes nothing.
+    /// Returns the native's asks for a unit and its view of the blackboard, in order. The native then holds its next
+    /// list. On an error, nothing changes.
     fn act(&mut self, alloc: Global, unit: UnitId, view: &View<'_>) -> Result<Vec<Ask>, Memory>
         requires { (meaning self.old).is_open ≡ true }
         ensures asks { IfOk result (λ asks. asks.items ≡ asks_of (meaning self.old) unit view.now) }
         ensures ok { OnOk result (meaning self.new ≡ after_act (meaning self.old) unit view.now) }
         ensures err { OnErr result (meaning self.new ≡ meaning self.old) };
 
-    /// Closes the native, and returns the number that it says at its close.
+    /// Closes the native and returns the number that it says.
     fn close(&mut self) -> i64
         requires { (meaning self.old).is_open ≡ true }
         ensures closing { result ≡ closing_of (meaning self.old) }

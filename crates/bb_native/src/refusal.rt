@@ -1,29 +1,29 @@
-//! Why an ask of a native is refused. applying.rt returns it, and a trace names its number.
+//! The reasons why an ask of a native is refused. applying.rt returns them, and a trace has their numbers.
 
 ghost use Rattle.std.specs.Prelude.{◌≡◌};
 ghost use Rattle.bb_native.specs.Refusals.{refusal_number, refusal_of};
 
 use bb_board_state::Reason;
 
-/// Why an ask is refused: the first reason, in this order.
+/// Why an ask is refused. If several reasons apply, it is the first in this order.
 #[derive(Clone, Copy, Debug, PartialEq, Eq)]
 pub enum Refusal {
     /// A unit that the ask names is not live.
     Deleted,
-    /// The unit's class has no such slot.
+    /// The unit's class has no such ordinary slot (to set) or link slot (to link or unlink).
     Slot,
     /// The slot can't hold the value, or a text to be said is too long.
     Kind,
-    /// The unit to link to is not of the class that the link slot leads to.
+    /// The class of the unit to link to is not the link slot's target class or a class below it.
     LinkClass,
-    /// The space isn't there, or does not allow units of the class.
+    /// The space doesn't exist, or doesn't admit units of the class.
     Space,
-    /// The class isn't there.
+    /// The class doesn't exist.
     Class,
 }
 
 impl Refusal {
-    /// The number by which a trace names the refusal, from 1 to 6.
+    /// Returns the refusal's number in a trace, from 1 to 6.
     pub fn number(self) -> u8
         ensures { result ≡ refusal_number self }
     {

@@ -1,4 +1,4 @@
-//! The natives that a host hands in. Whoever runs sources places each native source in it, has it act, and closes it.
+//! The natives that a host hands in. The run looks up natives here by name, makes them act, and closes them.
 
 ghost use Rattle.std.specs.Prelude.{◌≡◌, ◌<◌, pos, true, length, map, position, IfSome, IfOk, OnOk, OnErr};
 ghost use Rattle.std.specs.Str.{bytes_eq};
@@ -13,12 +13,12 @@ use bb_basis::{Items, Memory, Text};
 use bb_schema::UnitId;
 use std::alloc::Global;
 
-/// What the natives of a roster said at their close, in the order in which they were handed in.
+/// The names of a roster's natives and the numbers that they said when they were closed, in the order of the roster.
 pub type Closed = Items<Closing>;
 
-/// Natives in the order in which they were handed in, all open. Contracts see them as the list of their meanings,
-/// `map N.meaning roster.natives.items`. A roster can't be dropped: `close_all` alone spends it, so no native is
-/// dropped open, or called after its close.
+/// Natives in the order in which they were handed in, all open. Contracts see the list of their meanings,
+/// `map N.meaning roster.natives.items`. A roster can't be dropped, and only `close_all` consumes it. So no native is
+/// dropped while it is open, and none is called after it is closed.
 pub struct Roster<N: NativeSource> {
     natives: Vec<N>,
     closings: Vec<Closing>,
@@ -27,7 +27,7 @@ pub struct Roster<N: NativeSource> {
 }
 
 impl<N: NativeSource> Roster<N> {
-    /// A roster of open natives. An error closes each of them, in order.
+    /// Makes a roster of open natives. On an error, closes every native, in order.
     pub fn new(alloc: Global, natives: Vec<N>) -> Result<Roster<N>, Memory>
         requires { all_open (map N.meaning natives.items) ≡ true }
         ensures { IfOk result (λ roster. map N.meaning roster.natives.items ≡ map N.meaning natives.items) }
@@ -41,7 +41,7 @@ impl<N: NativeSource> Roster<N> {
         }
     }
 
-    /// The place of the first native of a name.
+    /// Returns the index of the first native with a name, if there is one.
     pub fn place(&self, name: &str) -> Option<usize>
         ensures place { result ≡ place_among (map N.meaning self.now.natives.items) name.now }
         ensures within { IfSome result (λ place. place < length (map N.meaning self.now.natives.items)) }
@@ -49,15 +49,15 @@ impl<N: NativeSource> Roster<N> {
         place_of(&self.closings, name)
     }
 
-    /// The name of each native, with no number yet, in the order in which they were handed in.
+    /// Returns the names of the natives, each with number 0, in the order in which they were handed in.
     pub fn handed_in(&self) -> &[Closing]
         ensures { result.now ≡ map unclosed (map N.meaning self.now.natives.items) }
     {
         &self.closings
     }
 
-    /// What the native at a place asks for a unit, with what it sees of the blackboard, in order. It then holds its
-    /// next list. An error changes nothing.
+    /// Returns the asks of the native at an index for a unit and its view of the blackboard, in order. The native then
+    /// holds its next list. On an error, nothing changes.
     pub fn act(
         &mut self,
         alloc: Global,
@@ -76,7 +76,7 @@ impl<N: NativeSource> Roster<N> {
         self.natives[place].act(alloc, unit, view)
     }
 
-    /// Closes each native once, in order, drops it, and returns what each said. It takes no memory.
+    /// Closes every native once, in order, drops it, and returns the numbers that they said. Allocates nothing.
     pub fn close_all(self) -> Closed
         ensures { result ≡ closings_of (map N.meaning self.natives.items) }
     {
@@ -85,7 +85,7 @@ impl<N: NativeSource> Roster<N> {
     }
 }
 
-// The place of the first closing of a name.
+// The index of the first closing with a name.
 fn place_of(closings: &[Closing], name: &str) -> Option<usize>
     ensures { result ≡ position (λ (c : Closing). bytes_eq c.name name.now) closings.now }
 {
@@ -94,7 +94,7 @@ fn place_of(closings: &[Closing], name: &str) -> Option<usize>
         .position(|closing| closing.name.as_str() == name)
 }
 
-// The name of a native, with no number yet.
+// The name of a native, with number 0.
 fn unclosed<N: NativeSource>(alloc: Global, native: &N) -> Result<Closing, Memory>
     ensures { IfOk result (λ closing. closing ≡ unclosed (N.meaning native.now)) }
 {
@@ -104,7 +104,7 @@ fn unclosed<N: NativeSource>(alloc: Global, native: &N) -> Result<Closing, Memor
     })
 }
 
-// The name of each native, with no number yet.
+// The names of natives, each with number 0.
 fn unclosed_all<N: NativeSource>(alloc: Global, natives: &[N]) -> Result<Vec<Closing>, Memory>
     ensures { IfOk result (λ closings. closings.items ≡ map unclosed (map N.meaning natives.now)) }
 {
@@ -124,8 +124,8 @@ fn close<N: NativeSource>(native: N) -> i64
     native.close()
 }
 
-/// Closes each of some open natives once, in order, drops it, and returns the sum of what they said, wrapping around at
-/// 64 bits: a number can be had only by a close. It takes no memory.
+/// Closes every one of some open natives once, in order, drops it, and returns the sum of the numbers that they said,
+/// wrapping around at 64 bits. Only a close gives a native's number. Allocates nothing.
 pub fn close_each<N: NativeSource>(natives: Vec<N>) -> i64
     requires { all_open (map N.meaning natives.items) ≡ true }
     ensures { result ≡ sum_said (pos 0) (map N.meaning natives.items) }
@@ -137,7 +137,7 @@ pub fn close_each<N: NativeSource>(natives: Vec<N>) -> i64
     sum
 }
 
-// Closes natives and drops them, in order, and puts the number of each beside its name.
+// Closes natives and drops them, in order, and sets the number of each next to its name.
 fn close_into<N: NativeSource>(natives: Vec<N>, closings: Vec<Closing>) -> Vec<Closing>
     requires opened { all_open (map N.meaning natives.items) ≡ true }
     requires named { closings.items ≡ map unclosed (map N.meaning natives.items) }

@@ -1,4 +1,4 @@
-//! What a native sees of a blackboard: all that can be read of it, but for its notes.
+//! The view that a native has of a blackboard: everything that can be read of it, except its notes.
 
 ghost use Rattle.std.specs.Prelude.{◌≡◌, ◌≤◌, ◌↔◌, Ok, Some, length, map, slice_get, IfOk, IsTrue, IsSome};
 ghost use Rattle.bb_pattern.specs.Fits.{query_fits};
@@ -18,8 +18,8 @@ use bb_board_state::{DimValue, Query};
 use bb_schema::{ClassId, Schema, SlotId, SpaceId, UnitId, Value};
 use std::marker::Model;
 
-/// A blackboard that can be read and not changed. Its notes are not seen, so that what a native does can't depend on
-/// when they were last taken.
+/// A blackboard that can be read but not changed. Its notes are hidden, so that natives can't depend on when notes were
+/// last taken.
 #[derive(Drop)]
 pub struct View<'a> {
     board: &'a Board,
@@ -37,50 +37,50 @@ impl<'a> Model for View<'a> {
 }
 
 impl<'a> View<'a> {
-    /// What can be read of a blackboard.
+    /// Makes a view of a blackboard.
     pub fn new(board: &'a Board) -> View<'a>
         ensures { result ≡ sight_of board.now }
     {
         View { board }
     }
 
-    /// The schema.
+    /// Returns the schema.
     pub fn schema(&self) -> &Schema
         ensures { result.now ≡ self.now.schema }
     {
         self.board.schema()
     }
 
-    /// The number that the next unit gets, up to 2^63.
+    /// Returns the number that the next unit gets, up to 2^63.
     pub fn next(&self) -> UnitId
         ensures { result ≡ self.now.world.units.next }
     {
         self.board.next()
     }
 
-    /// The numbers of the live units, rising. It fails only for want of memory.
+    /// Returns the numbers of the live units, ascending. Fails only if memory runs out.
     pub fn units(&self) -> Result<Vec<UnitId>, Memory>
         ensures { IfOk result (λ found. found.items ≡ live_units self.now.world.units) }
     {
         self.board.units()
     }
 
-    /// Whether a number names a unit.
+    /// Returns whether a number is that of a live unit.
     pub fn live(&self, unit: UnitId) -> bool
         ensures { result ≡ is_live self.now.world.units unit }
     {
         self.board.live(unit)
     }
 
-    /// Whether a number is 0, or that of a unit that was created and, if it is live, is of a class that descends from
-    /// this one.
+    /// Returns whether a number is 0, or belongs to a unit that was created and, if it is live, has a class that
+    /// descends from this one.
     pub fn was(&self, unit: UnitId, class: ClassId) -> bool
         ensures { result ≡ was self.now.schema self.now.world unit class }
     {
         self.board.was(unit, class)
     }
 
-    /// The class of a live unit.
+    /// Returns the class of a live unit.
     pub fn class_of(&self, unit: UnitId) -> ClassId
         requires { IsTrue (is_live self.now.world.units unit) }
         ensures { class_of self.now.world.units unit ≡ Some result }
@@ -88,7 +88,7 @@ impl<'a> View<'a> {
         self.board.class_of(unit)
     }
 
-    /// The value of an ordinary slot of a live unit, one that its class has.
+    /// Returns the value of an ordinary slot of a live unit. Its class must have the slot.
     pub fn get(&self, unit: UnitId, slot: SlotId) -> &Value
         requires { IsSome (value_of self.now.world.units unit slot) }
         ensures { value_of self.now.world.units unit slot ≡ Some result.now }
@@ -96,7 +96,7 @@ impl<'a> View<'a> {
         self.board.get(unit, slot)
     }
 
-    /// Whether a number names a unit whose class has the ordinary slot.
+    /// Returns whether a number is that of a live unit whose class has the ordinary slot.
     pub fn has(&self, unit: UnitId, slot: SlotId) -> bool
         ensures value { IsTrue result ↔ IsSome (value_of self.now.world.units unit slot) }
         ensures listed { result ≡ has_slot self.now.world.units unit slot }
@@ -104,8 +104,8 @@ impl<'a> View<'a> {
         self.board.has(unit, slot)
     }
 
-    /// The partners of a unit by a slot, in order of addition, 65,536 at most. A slot that is no link slot has none. It
-    /// fails only for want of memory.
+    /// Returns the partners of a unit by a slot, in the order of linking, at most 65,536; none if the slot is not a
+    /// link slot. Fails only if memory runs out.
     pub fn links(&self, unit: UnitId, slot: SlotId) -> Result<Vec<UnitId>, Memory>
         ensures links { IfOk result (λ found. found.items ≡ ends self.now.world.links unit slot) }
         ensures few { IfOk result (λ found. length found.items ≤ UNIT_LIMIT) }
@@ -113,31 +113,31 @@ impl<'a> View<'a> {
         self.board.links(unit, slot)
     }
 
-    /// The pairs of the couple of a slot, in order of addition, each with the unit at side A first. A slot that is no
-    /// link slot has none. It fails only for want of memory.
+    /// Returns the pairs of the couple of a slot, in the order of linking, each with the unit at side A first; none if
+    /// the slot is not a link slot. Fails only if memory runs out.
     pub fn pairs(&self, slot: SlotId) -> Result<Vec<(UnitId, UnitId)>, Memory>
         ensures { IfOk result (λ found. found.items ≡ pairs_by self.now.world.links slot) }
     {
         self.board.pairs(slot)
     }
 
-    /// The spaces that a unit is in, rising.
+    /// Returns the spaces that a unit is in, ascending.
     pub fn spaces_of(&self, unit: UnitId) -> &[SpaceId]
         ensures { result.now ≡ spaces_of self.now.world.spaces unit }
     {
         self.board.spaces_of(unit)
     }
 
-    /// The first partner of a unit by a slot, which is the only one where the slot is singular.
+    /// Returns the first partner of a unit by a slot, which is the only one if the slot is singular.
     pub fn one(&self, unit: UnitId, slot: SlotId) -> Option<UnitId>
         ensures { result ≡ slice_get (ends self.now.world.links unit slot) 0 }
     {
         self.board.one(unit, slot)
     }
 
-    /// The answer of a query that fits the schema, with operands of its kinds: the units in its space, of its class or
-    /// one below it, of which its pattern holds by their present values, rising (GBBopen Reference Manual,
-    /// find-instances). They are 65,536 at most.
+    /// Returns the answer of a query that fits the schema, with operands of its kinds: the units in its space, of its
+    /// class or a class below it, whose present values match its pattern, ascending, at most 65,536 (GBBopen Reference
+    /// Manual, find-instances). Fails only if memory runs out.
     pub fn find(&self, query: &Query, operands: &[DimValue]) -> Result<Vec<UnitId>, Memory>
         requires fits { query_fits self.now.schema query.now ≡ Ok tt }
         requires kinds { map kind_of_operand operands.now ≡ query.now.kinds }
@@ -148,7 +148,7 @@ impl<'a> View<'a> {
         self.board.find(query, operands)
     }
 
-    /// Does nothing, and says what holds of the blackboard at any time, as `Board::fits` does.
+    /// Does nothing, but shows proofs what holds of the blackboard at any time, as `Board::fits` does.
     pub fn fits(&self)
         ensures { Fits self.now.schema self.now.world }
     {

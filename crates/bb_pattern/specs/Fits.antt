@@ -1,4 +1,4 @@
--- Which patterns and queries fit a schema, or the first fault.
+-- Whether a pattern or a query fits a schema, or the first fault.
 use Rattle.std.specs.Prelude.{ℕ, ◌-◌, ◌||◌, ◌==◌, nat_le, nat_lt, List, length, Option, Some, None, is_some, option_and_then, slice_get, Result, Ok, Err, if◌then◌else◌}
 use Rattle.bb_basis.specs.Results.{◌>>=◌, ok_or}
 use Rattle.bb_schema.specs.declared.space.Dim.{Dim}
@@ -11,17 +11,17 @@ use Rattle.bb_pattern.specs.declared.value.OperandKind.{OperandKind}
 use Rattle.bb_pattern.specs.declared.value.OperandKind.TheVariants.{Interval, Label}
 use Rattle.bb_pattern.specs.Trees.{Tree, Trees, all, and_of, or_of, not_of, ordered, is_label, no_more, more, node_count, nodes_count}
 
--- the dimension is there and ordered: it has no label set
+-- the dimension exists and is ordered: it has no label set
 abbrev pub ordered_due : Option Dim → Result (Unit {0}) PatternFault
 ordered_due None = Err Dimension
 ordered_due (Some d) = if is_some d.set then Err Dimension else Ok tt
 
--- the operand is there and an interval
+-- the operand exists and is an interval
 abbrev pub interval_due : Option OperandKind → Result (Unit {0}) PatternFault
 interval_due (Some Interval) = Ok tt
 interval_due _ = Err Operand
 
--- the operand is there and a label of the set
+-- the operand exists and is a label of the set
 abbrev pub label_due : ℕ → Option OperandKind → Result (Unit {0}) PatternFault
 label_due set (Some (Label of)) = if of == set then Ok tt else Err Operand
 label_due set _ = Err Operand
@@ -36,7 +36,7 @@ is_fits dims kinds dim operand =
     ok_or (option_and_then (λ d. d.set) (slice_get dims dim)) Dimension >>= λ set.
     label_due set (slice_get kinds operand)
 
--- each test of a pattern, from the front, where a space has these dimensions and a query these operands
+-- all tests of a pattern, in order, for a space with these dimensions and a query with these operands
 unfoldable mutual
   pub tests_fit : List Dim → List OperandKind → Tree → Result (Unit {0}) PatternFault
   tests_fit dims kinds all = Ok tt
@@ -50,11 +50,11 @@ unfoldable mutual
   all_tests_fit dims kinds no_more = Ok tt
   all_tests_fit dims kinds (more p ps) = tests_fit dims kinds p >>= λ _. all_tests_fit dims kinds ps
 
--- how many are left of a number once some are taken away, or none where they are more
+-- the number less a count, or none if the count is larger
 abbrev pub left_of : ℕ → ℕ → Option ℕ
 left_of room count = if nat_le count room then Some (room - count) else None
 
--- how many nodes are left of a number
+-- the number less the nodes of a pattern
 abbrev pub room_after : ℕ → Tree → Option ℕ
 room_after room p = left_of room (node_count p)
 

@@ -1,4 +1,4 @@
--- Which units a pattern holds of.
+-- Whether a unit satisfies a pattern.
 use Rattle.std.specs.Prelude.{ℤ, Bool, true, false, not, ◌&&◌, ◌||◌, ◌==◌, int_le, int_lt, List, Option, Some, slice_get}
 use Rattle.bb_pattern.specs.declared.pattern.Relation.{Relation}
 use Rattle.bb_pattern.specs.declared.pattern.Relation.TheVariants.{Within, Covers, Overlaps, Less, More}
@@ -14,17 +14,17 @@ relates Overlaps low high first last = int_le low last && int_le first high
 relates Less low high first last = int_lt high first
 relates More low high first last = int_lt last low
 
--- whether what a unit has on a dimension is in the relation to an operand, if both are there and intervals
+-- whether the value of a unit on a dimension is in the relation to an operand; both must exist and be intervals
 abbrev pub ordered_holds : Relation → Option DimValue → Option DimValue → Bool
 ordered_holds relation (Some (Interval low high)) (Some (Interval first last)) = relates relation low high first last
 ordered_holds relation _ _ = false
 
--- the unit has the label on the dimension that the operand is
+-- whether the value of a unit on a dimension equals an operand; both must exist and be labels
 abbrev pub is_holds : Option DimValue → Option DimValue → Bool
 is_holds (Some (Label set label)) (Some (Label of other)) = (set == of) && (label == other)
 is_holds _ _ = false
 
--- whether a pattern with these operands holds of a unit that has these values, one for each dimension in order
+-- whether a pattern with these operands holds of a unit with these values, one for each dimension in order
 unfoldable mutual
   pub holds : List DimValue → List DimValue → Tree → Bool
   holds operands values all = true

@@ -1,14 +1,14 @@
--- what units have on dimensions, and what operands are
+-- values on dimensions, and kinds of operands
 pub mod Values
 -- a pattern as a tree
 pub mod Trees
 -- the trees of patterns
 pub mod View
--- which units a pattern holds of
+-- whether a unit satisfies a pattern
 pub mod Holds
 -- the numbers of faults
 pub mod Faults
--- which patterns and queries fit a schema
+-- whether a pattern or a query fits a schema
 pub mod Fits
--- what only models speak of
+-- definitions that only models use
 pub mod proving

@@ -1,18 +1,18 @@
--- A pattern as a tree (GBBopen Reference Manual, find-instances; its operators are of this project).
+-- A pattern as a tree (GBBopen Reference Manual, find-instances; the operators are this project's).
 use Rattle.std.specs.Prelude.{ℕ, suc, ◌+◌}
 use Rattle.bb_pattern.specs.declared.pattern.Relation.{Relation}
 
 mutual
   pub data Tree : Type 0 where
-    -- holds of each unit
+    -- holds of every unit
     all : Tree
-    -- each part holds; one part holds; the part does not
+    -- all parts hold; at least one part holds; the part does not hold
     and_of : Trees → Tree
     or_of : Trees → Tree
     not_of : Tree → Tree
     -- the value on the ordered dimension is in the relation to the operand
     ordered : Relation → ℕ → ℕ → Tree
-    -- the value on the enumerated dimension is the operand
+    -- the value on the enumerated dimension equals the operand
     is_label : ℕ → ℕ → Tree
 
   pub data Trees : Type 0 where

@@ -1,5 +1,5 @@
--- What only models speak of.
--- how trees are stored as data that can be told apart
+-- Definitions that only models use.
+-- how trees are encoded as data that can be compared
 pub mod Codes
--- a pattern has more nodes than each of its parts
+-- a pattern has more nodes than any of its parts
 pub mod Depths

@@ -8,13 +8,13 @@ use thiserror::Error;
 /// Why a pattern does not fit a schema.
 #[derive(Clone, Copy, Debug, PartialEq, Eq, Error)]
 pub enum PatternFault {
-    /// The space has no dimension of the number, or none of the sort that the test is for.
+    /// The space has no dimension with the number, or it is not of the sort that the test needs.
     #[error("no such dimension of this sort")]
     Dimension,
-    /// The query has no operand of the number, or none of the kind that the test is for.
+    /// The query has no operand with the number, or it is not of the kind that the test needs.
     #[error("no such operand of this kind")]
     Operand,
-    /// The space or the class is not there.
+    /// The space or the class does not exist.
     #[error("no such space or class")]
     Space,
     /// The pattern has more than 64 nodes, or there are more than 16 operands.
@@ -23,7 +23,7 @@ pub enum PatternFault {
 }
 
 impl PatternFault {
-    /// The number by which refusals name the fault, from 1 to 4.
+    /// Returns the number of the fault in refusals, from 1 to 4.
     pub fn number(self) -> u8
         ensures { result ≡ fault_number self }
     {

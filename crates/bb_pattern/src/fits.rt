@@ -1,4 +1,4 @@
-//! Which patterns fit a schema. The verifier asks it of each query of a code.
+//! Whether a pattern fits a schema. The verifier checks every query of a code.
 
 ghost use Rattle.std.specs.Prelude.{◌≡◌, length};
 ghost use Rattle.bb_pattern.specs.Fits.{room_after, rooms_after, ordered_fits, is_fits, tests_fit, all_tests_fit, pattern_fits};
@@ -9,10 +9,10 @@ use crate::pattern::{Node, Pattern};
 use crate::value::OperandKind;
 use bb_schema::{ClassId, Dim, Schema, SpaceId};
 
-/// The greatest number of nodes of a pattern.
+/// The maximum number of nodes of a pattern.
 pub const NODE_LIMIT: usize = 64;
 
-/// The greatest number of operands of a query.
+/// The maximum number of operands of a query.
 pub const OPERAND_LIMIT: usize = 16;
 
 // Whether a test of an ordered dimension fits.
@@ -60,7 +60,7 @@ fn is_fits(dims: &[Dim], kinds: &[OperandKind], dim: u8, operand: u8) -> Result<
     }
 }
 
-// Whether each test of some patterns fits, from the front.
+// Whether all tests of some patterns fit, in order.
 #[cycle(tests)]
 #[tactic(auto, unfolding(crate::specs::Fits::tests_fit))]
 fn all_tests_fit(
@@ -76,7 +76,7 @@ fn all_tests_fit(
     Ok(())
 }
 
-// How many nodes are left of a number, once those of some patterns are taken away.
+// Subtracts the nodes of some patterns from a number; `None` if they have more.
 #[cycle(room)]
 fn rooms_after(patterns: &[Pattern], room: usize) -> Option<usize>
     ensures { result ≡ rooms_after room (trees_of patterns.now) }
@@ -89,8 +89,7 @@ fn rooms_after(patterns: &[Pattern], room: usize) -> Option<usize>
 }
 
 impl Pattern {
-    // How many nodes are left of a number, once those of the pattern are taken away, or `None` where it has more. It
-    // goes no deeper than that number.
+    // Subtracts the nodes of the pattern from a number; `None` if it has more. Goes no deeper than that number.
     #[cycle(room)]
     fn room_after(&self, room: usize) -> Option<usize>
         ensures { result ≡ room_after room self.now }
@@ -106,7 +105,7 @@ impl Pattern {
         }
     }
 
-    // Whether each test fits, from the front.
+    // Whether all tests fit, in order.
     #[cycle(tests)]
     #[tactic(auto, unfolding(crate::specs::Fits::tests_fit))]
     fn tests_fit(&self, dims: &[Dim], kinds: &[OperandKind]) -> Result<(), PatternFault>
@@ -122,10 +121,10 @@ impl Pattern {
         }
     }
 
-    /// Whether the pattern fits a query for a class in a space, with operands of these kinds. The first that stands is
-    /// answered: `Space`, the space or the class is not there; `Limit`, more than 64 nodes or 16 operands; then node
-    /// by node, from the front: `Dimension`, the space has no such dimension of this sort; `Operand`, there is no such
-    /// operand of this kind. It goes no deeper than the limit, however deep the pattern is.
+    /// Checks that the pattern fits a query for a class in a space, with operands of these kinds. The error is the
+    /// first that applies: `Space`, the space or the class does not exist; `Limit`, there are more than 64 nodes or 16
+    /// operands; then node by node, in order: `Dimension`, the space has no such dimension of this sort; `Operand`,
+    /// there is no such operand of this kind. Goes no deeper than the limit, regardless of the depth of the pattern.
     #[tactic(auto, unfolding(crate::specs::Fits::pattern_fits))]
     pub fn fits(
         &self,

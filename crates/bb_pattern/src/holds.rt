@@ -1,4 +1,4 @@
-//! Which units a pattern holds of. Queries ask it of each candidate.
+//! Whether a unit satisfies a pattern. Queries test every candidate.
 
 ghost use Rattle.std.specs.Prelude.{◌≡◌, slice_get};
 ghost use Rattle.bb_pattern.specs.Holds.{relates, ordered_holds, is_holds, holds, holds_each, holds_some};
@@ -8,7 +8,7 @@ use crate::pattern::{Node, Pattern, Relation};
 use crate::value::DimValue;
 
 impl Relation {
-    /// Whether a unit's `[low, high]` is in the relation to an operand's `[first, last]`.
+    /// Returns whether a unit's `[low, high]` is in the relation to an operand's `[first, last]`.
     pub fn relates(self, low: i64, high: i64, first: i64, last: i64) -> bool
         ensures { result ≡ relates self low high first last }
     {
@@ -21,8 +21,8 @@ impl Relation {
         }
     }
 
-    /// Whether what a unit has on a dimension is in the relation to an operand. It is not where one of them is not
-    /// there, or is a label.
+    /// Returns whether the value of a unit on a dimension is in the relation to an operand. It is not if either is
+    /// missing or a label.
     pub fn holds(self, value: Option<DimValue>, operand: Option<DimValue>) -> bool
         ensures { result ≡ ordered_holds self value operand }
     {
@@ -35,15 +35,15 @@ impl Relation {
     }
 }
 
-// The value of a number, if there is one.
+// The value at a number, if there is one.
 fn value_at(values: &[DimValue], number: u8) -> Option<DimValue>
     ensures { result ≡ slice_get values.now number }
 {
     values.get(number as usize).copied()
 }
 
-/// Whether what a unit has on a dimension is the label that an operand is. It is not where one of them is not there, or
-/// is an interval.
+/// Returns whether the value of a unit on a dimension equals an operand, both labels. It does not if either is missing
+/// or an interval.
 pub fn is_holds(value: Option<DimValue>, operand: Option<DimValue>) -> bool
     ensures { result ≡ is_holds value operand }
 {
@@ -55,7 +55,7 @@ pub fn is_holds(value: Option<DimValue>, operand: Option<DimValue>) -> bool
     }
 }
 
-// Whether each of some patterns holds.
+// Whether all of some patterns hold.
 #[cycle(holding)]
 #[tactic(auto, unfolding(crate::specs::Holds::holds))]
 fn holds_each(patterns: &[Pattern], operands: &[DimValue], values: &[DimValue]) -> bool
@@ -69,7 +69,7 @@ fn holds_each(patterns: &[Pattern], operands: &[DimValue], values: &[DimValue]) 
     true
 }
 
-// Whether one of some patterns holds.
+// Whether at least one of some patterns holds.
 #[cycle(holding)]
 #[tactic(auto, unfolding(crate::specs::Holds::holds))]
 fn holds_some(patterns: &[Pattern], operands: &[DimValue], values: &[DimValue]) -> bool
@@ -84,8 +84,8 @@ fn holds_some(patterns: &[Pattern], operands: &[DimValue], values: &[DimValue]) 
 }
 
 impl Pattern {
-    /// Whether the pattern with these operands holds of a unit that has these values, one for each dimension in order.
-    /// A test does not hold where its dimension or its operand is not there, or is of another sort.
+    /// Returns whether the pattern with these operands holds of a unit with these values, one for each dimension in
+    /// order. A test does not hold if its dimension or its operand is missing or of another sort.
     #[cycle(holding)]
     #[tactic(auto, unfolding(crate::specs::Holds::holds))]
     pub fn holds(&self, operands: &[DimValue], values: &[DimValue]) -> bool

@@ -1,5 +1,7 @@
-//! Patterns and queries as plain data: which of them fit a schema, and which units a pattern holds of. Spaces, queries
-//! and codes are made of them.
+//! Patterns and queries as plain data: which of them fit a schema, and which units satisfy a pattern. Spaces, queries
+//! and codes use them. Callers rely on: a pattern that fits a schema tests only existing dimensions and operands, each
+//! of the right sort; and the test of whether it fits goes no deeper than `NODE_LIMIT`, regardless of the pattern's
+//! depth.
 #![tactic(auto)]
 
 mod fault;

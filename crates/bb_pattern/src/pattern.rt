@@ -1,11 +1,11 @@
-//! What a pattern is. Whoever reads or makes queries builds patterns of these nodes.
+//! Patterns. Code that reads or makes queries builds them from these nodes.
 
 use std::marker::Model;
 
-/// What a test says of a unit's `[low, high]` and an operand's `[first, last]`.
+/// The relation that a test requires between a unit's `[low, high]` and an operand's `[first, last]`.
 #[derive(Clone, Copy, Debug, PartialEq)]
 pub enum Relation {
-    /// `[low, high]` lies within `[first, last]`.
+    /// `[low, high]` is within `[first, last]`.
     Within,
     /// `[low, high]` covers `[first, last]`.
     Covers,
@@ -17,7 +17,7 @@ pub enum Relation {
     More,
 }
 
-/// A condition on the values that a unit has on the dimensions of a space (GBBopen Reference Manual, find-instances).
+/// A condition on the values of a unit on the dimensions of a space (GBBopen Reference Manual, find-instances).
 /// Contracts see it as a tree.
 #[cycle(pattern)]
 #[derive(Drop)]
@@ -29,11 +29,11 @@ pub struct Pattern {
 #[cycle(pattern)]
 #[derive(Drop)]
 pub enum Node {
-    /// Holds of each unit.
+    /// Every unit satisfies it.
     All,
-    /// Each of the patterns holds. Without patterns it holds of each unit.
+    /// All of the patterns hold. Without patterns, every unit satisfies it.
     And(Vec<Pattern>),
-    /// One of the patterns holds. Without patterns it holds of no unit.
+    /// At least one of the patterns holds. Without patterns, no unit satisfies it.
     Or(Vec<Pattern>),
     /// The pattern does not hold.
     Not(Box<Pattern>),
@@ -43,7 +43,7 @@ pub enum Node {
         dim: u8,
         operand: u8,
     },
-    /// The value on an enumerated dimension is the label that an operand is.
+    /// The value on an enumerated dimension equals an operand, a label.
     Is {
         dim: u8,
         operand: u8,
@@ -73,14 +73,14 @@ impl Pattern {
     ghost use Rattle.std.specs.Prelude.{◌≡◌};
     ghost use Rattle.bb_pattern.specs.View.{tree_of};
 
-    /// The pattern of a node.
+    /// Makes a pattern of a node.
     pub fn new(node: Node) -> Pattern
         ensures { result ≡ tree_of node }
     {
         Pattern { node }
     }
 
-    /// The node at the top.
+    /// Returns the root node.
     pub fn node(&self) -> &Node
         ensures { tree_of result.now ≡ self.now }
     {

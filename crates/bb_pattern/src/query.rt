@@ -1,4 +1,4 @@
-//! What a query is. Codes hold queries, and boards answer them.
+//! Queries. Codes contain them, and boards answer them.
 
 ghost use Rattle.std.specs.Prelude.{◌≡◌};
 ghost use Rattle.bb_pattern.specs.Fits.{query_fits};
@@ -9,17 +9,17 @@ use crate::value::OperandKind;
 use bb_basis::Items;
 use bb_schema::{ClassId, Schema, SpaceId};
 
-/// A question for the units of a class, or one below it, that are in a space and of which a pattern holds (GBBopen
-/// Reference Manual, find-instances).
+/// A query for the units of a class, or of one below it, that are in a space and satisfy a pattern (GBBopen Reference
+/// Manual, find-instances).
 pub struct Query {
     pub class: ClassId,
     pub space: SpaceId,
-    /// What each operand has to be.
+    /// The kind that each operand must have.
     pub kinds: Items<OperandKind>,
     pub pattern: Pattern,
 }
 
-// By hand, so that a proof meets one call where it is dropped, and not each of its parts.
+// Written by hand, so that a proof meets one call where it is dropped, rather than each of its parts.
 impl Drop for Query {
     fn drop(self) {
         let Query {
@@ -32,7 +32,7 @@ impl Drop for Query {
 }
 
 impl Query {
-    /// Whether the query fits a schema, or the first fault of its pattern there.
+    /// Checks that the query fits a schema. The error is the first fault, as in `Pattern::fits`.
     pub fn fits(&self, schema: &Schema) -> Result<(), PatternFault>
         ensures { result ≡ query_fits schema.now self.now }
     {

@@ -1,12 +1,11 @@
-//! What units have on dimensions, and what operands are. Boards read the values of units by it, and patterns compare
-//! these with operands.
+//! Values on dimensions. Boards convert the values of units with this, and patterns compare them with operands.
 
 ghost use Rattle.std.specs.Prelude.{◌≡◌};
 ghost use Rattle.bb_pattern.specs.Values.{dim_value_of, kind_of_operand};
 
 use bb_schema::{LabelId, LabelSetId, Value};
 
-/// What a unit has on a dimension, and what an operand is.
+/// The value of a unit on a dimension, or of an operand.
 #[derive(Clone, Copy, Debug, PartialEq)]
 pub enum DimValue {
     /// An interval from the first number to the second. A number `v` counts as `[v, v]`.
@@ -15,7 +14,7 @@ pub enum DimValue {
     Label(LabelSetId, LabelId),
 }
 
-/// What an operand of a query has to be.
+/// The kind that an operand of a query must have.
 #[derive(Clone, Copy, Debug, PartialEq)]
 pub enum OperandKind {
     Interval,
@@ -24,8 +23,8 @@ pub enum OperandKind {
 }
 
 impl DimValue {
-    /// What the value of a slot is on a dimension: a number and an interval are an interval, and a label is itself. A
-    /// text and a truth value are nothing.
+    /// Converts the value of a slot to its value on a dimension: a number or an interval becomes an interval, and a
+    /// label stays itself. Returns `None` for a text or a truth value.
     pub fn of(value: &Value) -> Option<DimValue>
         ensures { result ≡ dim_value_of value.now }
     {
@@ -37,7 +36,7 @@ impl DimValue {
         }
     }
 
-    /// The kind of the operands that the value can be.
+    /// Returns the kind of operand that the value can be.
     pub fn kind(self) -> OperandKind
         ensures { result ≡ kind_of_operand self }
     {

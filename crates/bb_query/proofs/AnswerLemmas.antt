@@ -17,8 +17,8 @@ use Rattle.bb_units.specs.Units.{Units, is_live}
 use Rattle.bb_pattern.specs.declared.query.Query.{Query}
 use Rattle.bb_pattern.specs.declared.value.DimValue.{DimValue}
 use Rattle.bb_pattern.specs.Holds.{holds}
-use Rattle.bb_space_index.specs.declared.leaf.Leaf.{Leaf}
-use Rattle.bb_space_index.specs.Leaf.{fits_leaf}
+use Rattle.bb_space.specs.declared.index.leaf.Leaf.{Leaf}
+use Rattle.bb_space.specs.index.Leaf.{fits_leaf}
 use Rattle.bb_space.specs.Passing.{passes_one}
 use Rattle.bb_space.specs.Spaces.{Spaces, Membership, membership, members, is_member, values_in}
 use Rattle.bb_query.specs.Answer.{answers, answer, is_of_class}

@@ -1,4 +1,4 @@
--- What is known of a member: what was told of it, and its class where the space lists none but the query's and those below.
+-- What is known of a member: what was told of it, and its class if the space lists only the query's and those below.
 use Rattle.std.proofs.Common.{◌≡◌, ℕ, ◌&&◌, Bool, true, false, List, Option, Some, None, refl, sym, ap, ◌∙◌}
 use Rattle.std.specs.Prelude.{is_some, option_map, IfSome, IsTrue}
 use Rattle.std.specs.List.{list_all}

@@ -1,4 +1,4 @@
--- What the spaces of a unit are told where a slot of it is set is what all spaces are: one that it is not in is told nothing.
+-- What a unit's spaces are told when a slot of it is set is what all spaces are: the others are told nothing.
 use Rattle.std.proofs.Common.{◌≡◌, ℕ, ◌+◌, ◌<◌, zero, suc, Bool, true, false, cond, List, [], ◌∷◌, length, get_or, Option, Some, None, option_map, refl, sym, ap, ◌∙◌, arith}
 use Rattle.std.specs.Prelude.{is_some, option_and_then, slice_set}
 use Rattle.std.specs.List.{filter, filter_map, cons_option, range_with_len}

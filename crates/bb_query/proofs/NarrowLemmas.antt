@@ -13,9 +13,9 @@ use Rattle.bb_pattern.specs.declared.value.DimValue.TheVariants.{Interval, Label
 use Rattle.bb_pattern.specs.Trees.{Tree, Trees, all, and_of, ordered, is_label}
 use Rattle.bb_pattern.specs.Holds.{holds, holds_each, ordered_holds, is_holds}
 use Rattle.bb_pattern.specs.View.{trees_of}
-use Rattle.bb_space_index.specs.declared.leaf.Leaf.{Leaf}
-use Rattle.bb_space_index.specs.declared.leaf.Leaf.TheVariants.{Ordered, Is}
-use Rattle.bb_space_index.specs.Leaf.{fits_leaf, fit_each}
+use Rattle.bb_space.specs.declared.index.leaf.Leaf.{Leaf}
+use Rattle.bb_space.specs.declared.index.leaf.Leaf.TheVariants.{Ordered, Is}
+use Rattle.bb_space.specs.index.Leaf.{fits_leaf, fit_each}
 use Rattle.bb_space.specs.Passing.{passes}
 use Rattle.bb_space.specs.Spaces.{Spaces, membership}
 use Rattle.bb_query.specs.proving.Enough.{AreEnough, among}

@@ -11,10 +11,10 @@ use Rattle.bb_pattern.specs.declared.value.DimValue.{DimValue}
 use Rattle.bb_pattern.specs.Trees.{Tree, Trees, and_of, or_of}
 use Rattle.bb_pattern.specs.Holds.{holds, holds_each, holds_some}
 use Rattle.bb_pattern.specs.View.{trees_of}
-use Rattle.bb_space_index.specs.declared.leaf.Leaf.{Leaf}
-use Rattle.bb_space_index.specs.Leaf.{fits_leaf}
-use Rattle.bb_space_index.specs.Stretches.{is_among}
-use Rattle.bb_space_index.proofs.Laws.{meets_among}
+use Rattle.bb_space.specs.declared.index.leaf.Leaf.{Leaf}
+use Rattle.bb_space.specs.index.Leaf.{fits_leaf}
+use Rattle.bb_space.specs.index.Stretches.{is_among}
+use Rattle.bb_space.proofs.index_lemmas.Laws.{meets_among}
 use Rattle.bb_space.specs.Spaces.{Spaces, membership, values_in, members, AreCandidates}
 use Rattle.bb_query.specs.proving.Enough.{AreEnough, among}
 use Rattle.bb_query.specs.proving.Tests.{Asks}

@@ -17,14 +17,14 @@ use Rattle.bb_schema_classes.specs.declared.value.Value.TheVariants as slot_valu
 use Rattle.bb_schema_classes.specs.Kinds.{kind_of_value}
 use Rattle.bb_schema_classes.specs.Values.{value_fits, is_label}
 use Rattle.bb_schema_classes.specs.Inheritance.{Descends, itself, through_parent, descends_in}
-use Rattle.bb_schema_slots.specs.declared.slot.Slot.{Slot}
-use Rattle.bb_schema_slots.specs.declared.slot.Content.{Content}
-use Rattle.bb_schema_slots.specs.declared.slot.Content.TheVariants as contents
+use Rattle.bb_schema.specs.declared.slot.Slot.{Slot}
+use Rattle.bb_schema.specs.declared.slot.Content.{Content}
+use Rattle.bb_schema.specs.declared.slot.Content.TheVariants as contents
 use Rattle.bb_schema.specs.declared.space.Dim.{Dim}
 use Rattle.bb_schema.specs.declared.space.Space.{Space}
-use Rattle.bb_schema_slots.specs.Kinds.{kind_of}
+use Rattle.bb_schema.specs.Kinds.{kind_of}
 use Rattle.bb_schema.specs.Schema.{Schema, slots_of, slot_named, kind_of_slot, default_of, dims_of}
-use Rattle.bb_schema_slots.specs.Slots.{has_name, default_in}
+use Rattle.bb_schema.specs.Slots.{has_name, default_in}
 use Rattle.bb_schema.specs.Spaces.{allowed}
 use Rattle.bb_schema.specs.SpaceReading.{suits, has_slot_for}
 use Rattle.bb_schema.specs.Fits as schema_laws

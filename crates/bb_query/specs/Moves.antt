@@ -1,4 +1,4 @@
--- What the spaces that read a slot are told where it is set: of what a space was told, one value changes.
+-- The values that spaces are given when a slot is set: one of the values that each was given changes.
 use Rattle.std.specs.Prelude.{ℕ, List, Option, length, option_map, option_and_then, position, slice_set}
 use Rattle.std.specs.List.{filter_map, range_with_len}
 use Rattle.std.specs.Str.{bytes_eq}
@@ -8,12 +8,12 @@ use Rattle.bb_pattern.specs.declared.value.DimValue.{DimValue}
 use Rattle.bb_pattern.specs.Values.{dim_value_of}
 use Rattle.bb_space.specs.Spaces.{Spaces, values_in}
 
--- the place of the dimension that reads a slot
+-- the index of the dimension that reads a slot
 abbrev pub reading : Schema → (slot space : ℕ) → Option ℕ
 reading s slot space =
     option_and_then (λ name. position (λ d. bytes_eq d.name name) (dims_of s space)) (name_of_slot s slot)
 
--- the values of a member of a space that reads the slot, once this is set to a value
+-- the values of a member of a space that reads the slot, after the slot is set to a value
 abbrev pub values_anew : Schema → Spaces → (unit slot : ℕ) → Value → (space : ℕ) → Option (List DimValue)
 values_anew s t n slot value space =
     option_and_then (λ told. option_and_then (λ place. option_map (slice_set told place) (dim_value_of value))

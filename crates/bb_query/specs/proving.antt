@@ -1,7 +1,7 @@
--- What only the contracts of private functions speak of.
--- units that hold an answer
+-- Definitions that only the contracts of private functions use.
+-- lists of units that include an answer
 pub mod Enough
--- what is said of a search
+-- properties of searches
 pub mod Searches
--- tests that stand for patterns
+-- tests equivalent to patterns or implied by them
 pub mod Tests

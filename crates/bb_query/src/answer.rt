@@ -19,7 +19,7 @@ use bb_space::Spaces;
 use bb_units::Units;
 use std::alloc::Global;
 
-// Whether a unit is live, and of a query's class or of one below it.
+// Whether a unit is live and belongs to a query's class or one below it.
 fn is_of_class(schema: &Schema, units: &Units, query: &Query, unit: UnitId) -> bool
     ensures { result ≡ is_of_class schema.now units.now query.now unit }
 {
@@ -29,7 +29,7 @@ fn is_of_class(schema: &Schema, units: &Units, query: &Query, unit: UnitId) -> b
     }
 }
 
-// Whether each of some classes is another or descends from it.
+// Whether all of some classes are a class or descend from it.
 fn all_descend(schema: &Schema, classes: &[ClassId], ancestor: ClassId) -> bool
     ensures { result ≡ list_all (λ c. descends schema.now c ancestor) classes.now }
 {
@@ -38,8 +38,8 @@ fn all_descend(schema: &Schema, classes: &[ClassId], ancestor: ClassId) -> bool
         .all(|class| schema.descends(*class, ancestor))
 }
 
-// Whether all members of a query's space are known to be of its class, so that none has to be looked up: all classes
-// that the space lists are. Where it lists more than `most` of them, it is no less to look units up.
+// Whether all members of a query's space are known to be of its class, because all classes that the space lists are. No
+// member then needs a look-up. If the space lists more than `most` classes, looking up the units costs no more.
 fn is_sure(search: &Search, most: usize) -> bool
     requires { Suits search.now }
     ensures { IsTrue result → AreOfClass search.now }
@@ -53,8 +53,8 @@ fn is_sure(search: &Search, most: usize) -> bool
     all_descend(search.schema, listed, search.query.class)
 }
 
-// Whether a query answers a member of its space, by the values that the space was told. The values come first: most
-// candidates for a test fail another one. The unit is looked up where it is not sure that it is of the class.
+// Whether the answer contains a member of its space, judged by the values that the space was given. The pattern is
+// tested first: most candidates for one test fail another. The unit is looked up only if its class is not sure.
 fn answers_told(search: &Search, sure: bool, unit: UnitId, values: &[DimValue]) -> bool
     requires suits { Suits search.now }
     requires sure { IsTrue sure → AreOfClass search.now }
@@ -70,7 +70,7 @@ fn answers_told(search: &Search, sure: bool, unit: UnitId, values: &[DimValue]) 
     is_of_class(search.schema, search.units, search.query, unit)
 }
 
-// Whether a query answers a unit.
+// Whether the answer contains a unit.
 fn answers(search: &Search, sure: bool, unit: UnitId) -> bool
     requires suits { Suits search.now }
     requires sure { IsTrue sure → AreOfClass search.now }
@@ -82,7 +82,7 @@ fn answers(search: &Search, sure: bool, unit: UnitId) -> bool
     }
 }
 
-// The units of a list that a query answers, in their order.
+// The units of a list that the answer contains, in the order of the list.
 fn answered(alloc: Global, search: &Search, among: &[UnitId]) -> Result<Vec<UnitId>, Memory>
     requires { Suits search.now }
     ensures { IfOk result (λ found. found.items ≡ filter (is_answer search.now) among.now) }
@@ -97,7 +97,7 @@ fn answered(alloc: Global, search: &Search, among: &[UnitId]) -> Result<Vec<Unit
     Ok(found)
 }
 
-// The members of its space that a query answers, rising, by one walk over all of them.
+// The members of its space that the answer contains, ascending, by one scan of all of them.
 fn scanned(alloc: Global, search: &Search, sure: bool) -> Result<Vec<UnitId>, Memory>
     requires suits { Suits search.now }
     requires sure { IsTrue sure → AreOfClass search.now }
@@ -113,7 +113,8 @@ fn scanned(alloc: Global, search: &Search, sure: bool) -> Result<Vec<UnitId>, Me
     Ok(found)
 }
 
-// Whether a query is known to answer all members of its space: each is of its class, and its pattern asks for nothing.
+// Whether the answer is known to contain all members of its space: all are of its class, and the pattern holds of
+// everything.
 fn answers_all(search: &Search, sure: bool) -> bool
     requires suits { Suits search.now }
     requires sure { IsTrue sure → AreOfClass search.now }
@@ -126,7 +127,7 @@ fn answers_all(search: &Search, sure: bool) -> bool
     is_all(&search.query.pattern)
 }
 
-// The members of its space that a query answers, rising: all of them, or those that a walk over all finds.
+// The members of its space that the answer contains, ascending: all of them, or the result of a scan.
 fn walked(alloc: Global, search: &Search) -> Result<Vec<UnitId>, Memory>
     requires { Suits search.now }
     ensures { IfOk result (λ found.
@@ -140,9 +141,10 @@ fn walked(alloc: Global, search: &Search) -> Result<Vec<UnitId>, Memory>
     scanned(alloc, search, sure)
 }
 
-/// The answer of a query: the units in its space, of its class or one below it, of which its pattern holds, rising
-/// (GBBopen Reference Manual, find-instances). The query fits the schema; and members are live, of classes that their
-/// space admits, and the spaces were told their present values. A test whose operand is of another sort holds of none.
+/// Finds the units in the query's space, of its class or one below it, that satisfy its pattern, in ascending order
+/// (GBBopen Reference Manual, find-instances). The query must fit the schema, members must be live and of classes that
+/// their space admits, and the spaces must have been given their present values. A test whose operand is of another
+/// sort holds of no unit.
 pub fn find(
     alloc: Global,
     schema: &Schema,
@@ -169,8 +171,8 @@ pub fn find(
     }
 }
 
-// How many units a query answers, where the index tells it: if all members of its space are known to be of its class, and
-// its pattern asks for nothing, or is a test whose passing members the index can count.
+// The number of units in the answer, if the index determines it: all members of the space are known to be of the
+// query's class, and the pattern holds of everything or is a test whose passing members the index can count.
 fn counted(search: &Search) -> Option<usize>
     requires { Suits search.now }
     ensures { IfSome result (λ n.
@@ -189,8 +191,8 @@ fn counted(search: &Search) -> Option<usize>
     search.spaces.count_passing(space, &test)
 }
 
-/// How many units a query answers: the length of what `find` gives, under the same conditions. Nothing is listed where
-/// the index tells the number.
+/// Returns the number of units in the answer of a query: the length of the list that `find` returns, under the same
+/// conditions. Builds no list if the index determines the number.
 pub fn count(
     alloc: Global,
     schema: &Schema,

@@ -1,11 +1,11 @@
-//! How much `find` may spend on candidates before it goes over all members of the space instead. near.rt spends it.
-//! The numbers that it goes by, with their reasons, are in costs.rt of bb_space_index.
+//! The limits of what `find` may spend on candidates before it scans all members of the space instead. `near.rt` spends
+//! it. The numbers, with their reasons, are in `index/costs.rt` of bb_space.
 
 use bb_schema::UnitId;
 use bb_space::Leaf;
-use bb_space_index::{FIRST_CANDIDATES, FOUND, MORE_CANDIDATES, SORTED};
+use bb_space::index::{FIRST_CANDIDATES, FOUND, MORE_CANDIDATES, SORTED};
 
-/// What may be spent: how many candidates a test may have in this round, and how many steps are left for all rounds.
+/// What may be spent: the maximum number of candidates for a test in this round, and the steps left for all rounds.
 #[derive(Clone, Copy)]
 pub(crate) struct Effort {
     most: usize,
@@ -13,7 +13,8 @@ pub(crate) struct Effort {
 }
 
 impl Effort {
-    /// What the first round may spend in a space of so many members: all rounds together a step for each of them.
+    /// Returns the effort of the first round in a space of `members` members. All rounds together may spend one step
+    /// for each.
     pub(crate) fn new(members: usize) -> Effort {
         Effort {
             most: FIRST_CANDIDATES,
@@ -21,8 +22,8 @@ impl Effort {
         }
     }
 
-    /// How many candidates a test may have. `most` may be found in rising order, as those of one low end or one label
-    /// are. Others have to be sorted, and count more.
+    /// Returns the maximum number of candidates for a test: up to `most` if they are found in ascending order, as for
+    /// one low end or one label. Others must be sorted, so fewer are allowed.
     pub(crate) fn most_of(&self, test: &Leaf) -> usize {
         let most = if test.has_one_key() {
             self.most
@@ -32,13 +33,13 @@ impl Effort {
         most.min(self.left / FOUND)
     }
 
-    /// How many candidates each of some pairs of tests may have.
+    /// Returns the maximum number of candidates for each of `pairs` pairs of tests.
     pub(crate) fn most_of_each(&self, pairs: usize) -> usize {
         self.most
             .min(self.left / FOUND.saturating_mul(pairs).max(1))
     }
 
-    /// Notes what was spent: so many steps in vain, or what it takes to go on with the candidates that were found.
+    /// Subtracts what was spent: `walked` steps if no candidates were found, or else the cost of processing them.
     pub(crate) fn spend(&mut self, walked: usize, found: &Option<Vec<UnitId>>) {
         let steps = match found {
             None => walked,
@@ -47,7 +48,7 @@ impl Effort {
         self.left = self.left.saturating_sub(steps);
     }
 
-    /// Goes on to the next round, in which a test may have more candidates, and says whether there is one.
+    /// Starts the next round, in which a test may have more candidates. Returns `false` if there is none.
     pub(crate) fn grow(&mut self) -> bool {
         if self.most >= self.left {
             return false;

@@ -1,9 +1,10 @@
-//! What a query answers: the units of a space, of a class or one below it, of which a pattern holds.
+//! The answers of queries: the units in a space, of a class or one below it, that satisfy a pattern.
 //!
 //! - In: a `Query` that fits the schema, units and spaces.
-//! - Out: `find`, the units in rising order, as a scan of all of them would answer; `count`, how many they are.
-//!   `values_of` and `moves_of`: what a space is told of a unit that enters it, and of one whose slot is set.
-//! - Callers rely on: the answer does not depend on the index; that only makes it quick.
+//! - Out: `find`, the units in ascending order, as a scan of all of them would find them; `count`, their number.
+//!   `values_of` and `moves_of`: the values that a space is given when a unit enters it, and when a slot of a unit is
+//!   set.
+//! - Callers rely on: the answer does not depend on the index, which only makes it fast.
 //! - Cases: `spaces_and_queries`, `counting`, `model-spaces`.
 #![tactic(auto)]
 

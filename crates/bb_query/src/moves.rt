@@ -1,4 +1,4 @@
-//! What spaces are told of a unit whose slot is set. The board's state (bb_board_state) sets it.
+//! The values that spaces are given when a slot of a unit is set. The board's state (bb_board_state) sets it.
 
 ghost use Rattle.std.specs.Prelude.{◌≡◌, ◌<◌, ◌^◌, IfOk, length, position, slice_set};
 ghost use Rattle.std.specs.Str.{bytes_eq};
@@ -10,21 +10,21 @@ use bb_schema::{Dim, Schema, SlotId, SpaceId, UnitId, Value};
 use bb_space::Spaces;
 use std::alloc::Global;
 
-/// A slot of a unit, and the value that it is set to.
+/// A slot of a unit, and its new value.
 #[derive(Clone, Copy)]
 pub struct Setting<'a> {
     pub slot: SlotId,
     pub value: &'a Value,
 }
 
-// The place of the dimension of a name.
+// The index of the dimension with a name.
 fn place_of(dims: &[Dim], name: &str) -> Option<usize>
     ensures { result ≡ position (λ d. bytes_eq d.name name.now) dims.now }
 {
     dims.iter().position(|dim| dim.name.as_str() == name)
 }
 
-// The place of the dimension of a space that reads a slot.
+// The index of the dimension of a space that reads a slot.
 fn reading(schema: &Schema, slot: SlotId, space: SpaceId) -> Option<usize>
     requires { space < length schema.now.spaces }
     ensures { result ≡ reading schema.now slot space }
@@ -33,7 +33,7 @@ fn reading(schema: &Schema, slot: SlotId, space: SpaceId) -> Option<usize>
     place_of(schema.dims(space), name)
 }
 
-// Values with another one at a place.
+// Values with another value at an index.
 fn with_value(
     alloc: Global,
     told: &[DimValue],
@@ -49,8 +49,8 @@ fn with_value(
     Ok(Items::from(values))
 }
 
-// The values of a unit in a space, once a slot of it is set to a value. `None` where it is no member, or the space
-// does not read the slot.
+// The values of a unit in a space after a slot is set to a value. `None` if the unit is not a member or the space does
+// not read the slot.
 fn values_anew(
     alloc: Global,
     schema: &Schema,
@@ -76,7 +76,8 @@ fn values_anew(
     Ok(Some(with_value(alloc, told, place, new)?))
 }
 
-/// What the spaces of a unit that read a slot are told where it is set to a value, in the order of the spaces.
+/// Returns the new values of a unit in each of its spaces that read a slot, after the slot is set to a value, in the
+/// order of the spaces.
 pub fn moves_of(
     alloc: Global,
     schema: &Schema,

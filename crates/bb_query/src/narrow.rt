@@ -1,4 +1,4 @@
-//! The tests that a pattern is an `and` of, by which near.rs goes, and whether it asks for anything.
+//! The tests that an `and` pattern consists of, and whether a pattern holds of everything. `near.rt` uses both.
 
 ghost use Rattle.std.specs.Prelude.{◌≡◌, IfOk, IfSome, IsTrue, slice_get};
 ghost use Rattle.bb_pattern.specs.Holds.{ordered_holds, is_holds, holds, holds_each};
@@ -10,7 +10,7 @@ use bb_pattern::{DimValue, Node, Pattern, Relation};
 use bb_space::Leaf;
 use std::alloc::Global;
 
-// The operand of a number, if there is one.
+// The operand with a number, if there is one.
 fn operand_at(operands: &[DimValue], number: u8) -> Option<DimValue>
     ensures { result ≡ slice_get operands.now number }
 {
@@ -42,7 +42,7 @@ fn label_test(dim: u8, operand: Option<DimValue>) -> Option<Leaf>
     }
 }
 
-/// The test that a pattern is, if it is one and has an operand of its sort.
+/// Returns the test that a pattern is, if it is one and has an operand of the right sort.
 pub(crate) fn test_of(pattern: &Pattern, operands: &[DimValue]) -> Option<Leaf>
     ensures { IfSome result (Asks (λ values. holds operands.now values pattern.now)) }
 {
@@ -76,7 +76,7 @@ fn tests_among(
     Ok(tests)
 }
 
-/// The tests among the parts of a pattern that is an `and`.
+/// Returns the tests among the parts of a pattern that is an `and`.
 pub(crate) fn tests_of(
     alloc: Global,
     pattern: &Pattern,
@@ -90,7 +90,7 @@ pub(crate) fn tests_of(
     }
 }
 
-/// Whether a pattern asks for nothing: it is `all`, or an `and` without parts.
+/// Returns whether a pattern holds of everything: it is `all`, or an `and` without parts.
 pub(crate) fn is_all(pattern: &Pattern) -> bool
     ensures { IsTrue result → HoldsOfAll pattern.now }
 {

@@ -1,5 +1,5 @@
-//! Which members of a space a pattern can hold of, without a walk over all of them. The answer of a query begins there.
-//! The numbers by which it chooses, with their reasons, are in costs.rt of bb_space_index.
+//! The members of a space that may satisfy a pattern, without a scan of all members. The answer of a query begins here.
+//! The numbers by which it chooses, with their reasons, are in `index/costs.rt` of bb_space.
 
 ghost use Rattle.std.specs.Prelude.{IfOk, IfSome};
 ghost use Rattle.bb_pattern.specs.Holds.{holds, holds_each, holds_some};
@@ -14,10 +14,10 @@ use bb_basis::Memory;
 use bb_pattern::{Node, Pattern};
 use bb_schema::UnitId;
 use bb_space::Leaf;
-use bb_space_index::{ROUNDS, rise};
+use bb_space::index::{ROUNDS, rise};
 use std::alloc::Global;
 
-// The candidates for a pattern that is a test, or `None` where they are too many, or its operand is of another sort.
+// The candidates for a pattern that is a test, or `None` if they are too many, or the operand is of another sort.
 fn near_test(
     search: &Search,
     pattern: &Pattern,
@@ -36,8 +36,8 @@ fn near_test(
     Ok(few)
 }
 
-// Members, rising, among them all of which each of some patterns holds: those of the first pattern that bounds them by
-// few candidates.
+// Members, ascending, including all that satisfy all of some patterns: the candidates for the first pattern that has
+// few.
 #[cycle(near)]
 fn near_each(
     alloc: Global,
@@ -58,8 +58,8 @@ fn near_each(
     Ok(None)
 }
 
-// Members, rising, among them all of which one of some patterns holds: those of all patterns, if each bounds them by
-// few candidates, and these are few together.
+// Members, ascending, including all that satisfy one of some patterns: the candidates for all patterns, if each has few
+// within the effort left.
 #[cycle(near)]
 fn near_some(
     alloc: Global,
@@ -82,7 +82,8 @@ fn near_some(
     Ok(Some(found))
 }
 
-// Members, rising, among them all of which a pattern holds, or `None` where it does not bound them by few candidates.
+// Members, ascending, including all that satisfy a pattern, or `None` if the pattern doesn't limit them to few
+// candidates.
 #[cycle(near)]
 fn near_pattern(
     alloc: Global,
@@ -103,8 +104,8 @@ fn near_pattern(
     }
 }
 
-// Members, rising, among them all of which the query's pattern holds: by two of the tests that it is an `and` of, of
-// which the first asks for one low end or one label.
+// Members, ascending, including all that satisfy the query's pattern, by two of the tests that it is an `and` of. The
+// first of the two asks for one low end or one label.
 fn near_both(
     search: &Search,
     tests: &[Leaf],
@@ -124,7 +125,7 @@ fn near_both(
     Ok(few)
 }
 
-// Members, rising, among them all of which the query's pattern holds: by two of the tests that it is an `and` of, or
+// Members, ascending, including all that satisfy the query's pattern, by two of the tests that it is an `and` of, or
 // else by one test.
 fn near_within(
     alloc: Global,
@@ -143,10 +144,10 @@ fn near_within(
     near_pattern(alloc, search, &search.query.pattern, effort)
 }
 
-// Members, rising, among them all of which the query's pattern holds, or `None` where a walk over all members is no
-// dearer. The number of candidates that a test may have begins small and grows: so an `and` goes by the first part with
-// so few, or with at most sixteen times as many as the one with the fewest (`MORE_CANDIDATES`, and `SORTED`), and costs
-// no more where that one stands last. Two tests that are asked together count as one.
+// Members, ascending, including all that satisfy the query's pattern, or `None` if a scan of all members costs no more.
+// The maximum number of candidates for a test starts small and grows. An `and` therefore uses the first part with so
+// few, which has at most sixteen times as many as the part with the fewest (`MORE_CANDIDATES` times `SORTED`), and
+// costs no more if that part is last. Two tests that are asked together count as one.
 fn near_few(alloc: Global, search: &Search, tests: &[Leaf]) -> Result<Option<Vec<UnitId>>, Memory>
     requires space { HasSpace search.now }
     requires ask { AskNoMore (matches search.now) tests.now }
@@ -165,8 +166,8 @@ fn near_few(alloc: Global, search: &Search, tests: &[Leaf]) -> Result<Option<Vec
     Ok(None)
 }
 
-/// Members of the query's space, rising, among them all of which its pattern holds, or `None` where a walk over all
-/// members is no dearer. Members that fail a test which the pattern is an `and` of are left out.
+/// Returns members of the query's space, ascending, including all that satisfy its pattern, or `None` if a scan of all
+/// members costs no more. Leaves out members that fail a test which the pattern is an `and` of.
 pub(crate) fn near(alloc: Global, search: &Search) -> Result<Option<Vec<UnitId>>, Memory>
     requires { HasSpace search.now }
     ensures { IfOk result (λ near. IfSome near (λ list. HasAll search.now (matches search.now) list.items)) }

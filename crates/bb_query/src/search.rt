@@ -1,11 +1,12 @@
-//! What a query is asked of. `find` of answer.rt makes a search, and near.rt looks for candidates by it.
+//! A query with everything that answers it. `find` of `answer.rt` makes a search, and `near.rt` finds candidates with
+//! it.
 
 use bb_pattern::{DimValue, Query};
 use bb_schema::Schema;
 use bb_space::Spaces;
 use bb_units::Units;
 
-/// A query with its operands, and the blackboard that it is asked of.
+/// A query with its operands, and the blackboard that answers it.
 #[derive(Clone, Copy)]
 pub(crate) struct Search<'a> {
     pub(crate) schema: &'a Schema,

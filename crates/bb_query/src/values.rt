@@ -1,5 +1,4 @@
-//! The values that a unit has on the dimensions of a space. The board tells these to the spaces, and what they were
-//! told is what queries read.
+//! The values of a unit on the dimensions of a space. The board gives them to the spaces, where queries read them.
 
 ghost use Rattle.std.specs.Prelude.{◌≡◌, ◌<◌, IfOk, IsTrue, length, map};
 ghost use Rattle.bb_query.specs.PresentValues.{value_on, values_on, present_values};
@@ -14,7 +13,7 @@ use bb_schema::{ClassId, Dim, Schema, SpaceId, UnitId};
 use bb_units::Units;
 use std::alloc::Global;
 
-// What a unit of a class has on a dimension: the value of the slot that has the dimension's name.
+// The value of a unit of a class on a dimension: the value of the slot with the dimension's name.
 fn value_on(
     schema: &Schema,
     units: &Units,
@@ -31,7 +30,7 @@ fn value_on(
     DimValue::of(units.get(unit, slot))
 }
 
-// What a unit of a class has on each of some dimensions, in order.
+// The values of a unit of a class on some dimensions, in order.
 fn values_on(
     alloc: Global,
     schema: &Schema,
@@ -52,7 +51,7 @@ fn values_on(
     Ok(values)
 }
 
-/// The present values of a live unit on the dimensions of a space, in their order. Where the space admits the unit,
+/// Returns the present values of a live unit on the dimensions of a space, in order. If the space admits the unit,
 /// there is one for each: an interval on an ordered dimension, a label of its set on an enumerated one.
 pub fn values_of(
     alloc: Global,
@@ -67,7 +66,7 @@ pub fn values_of(
     ensures whole { IfOk result (λ values. Admits schema.now units.now unit space
         → map kind_of_operand values ≡ map kind_on (dims_of schema.now space)) }
 {
-    // For the proof: what holds of every schema and the units.
+    // For the proof: the invariants of the schema and the units.
     schema.fits();
     units.fits();
     let class = units.class_of(unit);

@@ -6,10 +6,10 @@ use Rattle.bb_schema_classes.specs.Faults.{fault_number as schema_number}
 use Rattle.bb_code.specs.CodeFault.{fault_number as code_number}
 use Rattle.bb_bundle.specs.declared.fault.BundleFault.{BundleFault}
 use Rattle.bb_bundle.specs.declared.fault.BundleFault.TheVariants as bundles
-use Rattle.bb_lang_token.specs.Faults.{fault_number as lang_number}
-use Rattle.bb_lang_token.specs.declared.fault.LangFault.{LangFault}
-use Rattle.bb_lang_token.specs.declared.fault.LangFault.TheVariants as langs
-use Rattle.bb_lang_token.specs.declared.place.Place.{Place}
+use Rattle.bb_lang_tree.specs.Faults.{fault_number as lang_number}
+use Rattle.bb_lang_tree.specs.declared.fault.LangFault.{LangFault}
+use Rattle.bb_lang_tree.specs.declared.fault.LangFault.TheVariants as langs
+use Rattle.bb_lang_tree.specs.declared.place.Place.{Place}
 use Rattle.bb_compile_scope.specs.Faults.{flaw_number as text_flaw_number}
 use Rattle.bb_compile_scope.specs.declared.fault.CompileFault.{CompileFault}
 use Rattle.bb_compile_scope.specs.declared.fault.CompileFault.TheVariants as compiles
@@ -31,7 +31,7 @@ fault_number (inputs.Verify name part fault) = 6
 fault_number (inputs.Rule name fault) = 7
 fault_number inputs.Memory = 8
 
--- where the fault of a text is; nowhere if memory ran out
+-- the place of a fault of a text; none if memory ran out
 abbrev pub lang_place : LangFault → Option Place
 lang_place (langs.Character place) = Some place
 lang_place (langs.Token place) = Some place
@@ -40,12 +40,12 @@ lang_place (langs.Twice place) = Some place
 lang_place (langs.Limit place) = Some place
 lang_place langs.Memory = None
 
--- where the fault of a source of a text is; nowhere if memory ran out
+-- the place of a fault of a source that is text; none if memory ran out
 abbrev pub compile_place : CompileFault → Option Place
 compile_place (compiles.At flaw place) = Some place
 compile_place compiles.Memory = None
 
--- where in the text of sources the fault of an input is, if it is one of that text
+-- the place of an input's fault in the text of sources, if it has one there
 abbrev pub source_place : InputFault → Option Place
 source_place (inputs.Schema fault) = None
 source_place (inputs.Units fault) = None
@@ -65,7 +65,7 @@ abbrev pub lang_text : LangFault → List ℕ
 lang_text fault =
     option_map_or (λ place. codes "refused lang " ++ place_text place (lang_number fault)) (lang_place fault) []
 
--- the line of a fault of a source of a text, with its place; empty if memory ran out
+-- the line of a fault of a source that is text, with its place; empty if memory ran out
 abbrev pub compile_text : (name : List ℕ) → CompileFault → List ℕ
 compile_text name (compiles.At flaw place) =
     codes "refused compile " ++ name ++ codes " " ++ place_text place (text_flaw_number flaw)

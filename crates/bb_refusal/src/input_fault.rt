@@ -1,5 +1,5 @@
 //! Why an input is refused, and the line of a refusal. `run_texts` returns it, and programs (bb_main) write its line.
-//! The sentence for people is in `sentence`.
+//! `sentence` has the sentence for people.
 
 ghost use Rattle.std.specs.Prelude.{◌≡◌, IfOk, string_bytes};
 ghost use Rattle.bb_refusal.specs.declared.input_fault.InputFault.TheVariants.{Memory as OutOfMemory};
@@ -10,7 +10,7 @@ use bb_basis::Text;
 use bb_board::UnitsFault;
 use bb_bundle::BundleFault;
 use bb_compile_scope::CompileFault;
-use bb_lang_token::{LangFault, Place};
+use bb_lang_tree::{LangFault, Place};
 use bb_rules::RuleFault;
 use bb_schema_classes::SchemaFault;
 use bb_verify::{Part, VerifyFault};
@@ -19,19 +19,19 @@ use std::alloc::{AllocError, AllocFailed, Global};
 /// Why an input is refused: the first step that refuses it, and its fault.
 #[derive(Debug, Drop)]
 pub enum InputFault {
-    /// The document of the schema is not one of a schema.
+    /// The document of the schema does not describe a schema.
     Schema(SchemaFault),
-    /// The first units can't be created.
+    /// The initial units can't be created.
     Units(UnitsFault),
     /// The sources that are text can't be read.
     Lang(LangFault),
-    /// A source that is text has no code.
+    /// A source that is text can't be compiled.
     Compile {
         /// The name of the source.
         name: Text,
         fault: CompileFault,
     },
-    /// The bundle spells no sources.
+    /// The bundle can't be read as sources.
     Bundle(BundleFault),
     /// A code of a source is not accepted.
     Verify {
@@ -67,7 +67,7 @@ impl<T: Drop> From<AllocFailed<T>> for InputFault {
 }
 
 impl InputFault {
-    /// The number of the step that refuses, from 1 to 8.
+    /// Returns the number of the step that refuses, from 1 to 8.
     pub fn number(&self) -> u8
         ensures { result ≡ fault_number self.now }
     {
@@ -83,7 +83,7 @@ impl InputFault {
         }
     }
 
-    /// Where in the text of sources the fault is, if it is one of that text.
+    /// Returns the place of the fault in the text of sources, if it has one there.
     pub fn place(&self) -> Option<Place>
         ensures { result ≡ source_place self.now }
     {
@@ -94,7 +94,7 @@ impl InputFault {
         }
     }
 
-    /// The line of the refusal, without its line feed; empty for `Memory`.
+    /// Returns the line of the refusal without its line feed; empty if memory ran out. The error: out of memory.
     pub fn line(&self, alloc: Global) -> Result<String, AllocError>
         ensures { IfOk result (λ line. string_bytes line ≡ refusal_text self.now) }
     {
@@ -127,7 +127,7 @@ impl InputFault {
     }
 }
 
-// Where the fault of a text is.
+// The place of a fault of a text.
 fn lang_place(fault: LangFault) -> Option<Place>
     ensures { result ≡ lang_place fault }
 {
@@ -141,7 +141,7 @@ fn lang_place(fault: LangFault) -> Option<Place>
     }
 }
 
-// Where the fault of a source of a text is.
+// The place of a fault of a source that is text.
 fn compile_place(fault: CompileFault) -> Option<Place>
     ensures { result ≡ compile_place fault }
 {

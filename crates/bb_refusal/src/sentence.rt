@@ -1,12 +1,12 @@
-//! Why an input is refused, as a sentence for people: where the fault is, and what is wrong there. Reports
-//! (bb_refusal_report) begin with it.
+//! Why an input is refused, as a sentence for people: where the fault is, and what is wrong there. Reports (bb_diag)
+//! begin with this sentence.
 
 use crate::input_fault::InputFault;
 use bb_board::{UnitsFault, UnitsFlaw};
 use bb_bundle::BundleFault;
 use bb_code::CodeFault;
 use bb_compile_scope::{CompileFault, TextFlaw};
-use bb_lang_token::{LangFault, Place};
+use bb_lang_tree::{LangFault, Place};
 use bb_rules::RuleFault;
 use bb_schema_classes::{DocumentPlace, SchemaFault, SchemaFlaw};
 use bb_verify::Flaw;
@@ -14,7 +14,7 @@ use std::error::Error;
 use std::fmt;
 use std::fmt::{Display, Formatter, Write};
 
-// What each fault says that means only that memory ran out.
+// What every fault says if memory ran out.
 const NO_MEMORY: &str = "memory ran out";
 
 impl Error for InputFault {}
@@ -61,7 +61,7 @@ fn write_schema<W: Write>(f: &mut Formatter<W>, fault: SchemaFault) -> fmt::Resu
     }
 }
 
-// Writes the entry of the document of first units, if there is one, and what is wrong there.
+// Writes the entry of the document of initial units, if there is one, and what is wrong there.
 fn write_units<W: Write>(f: &mut Formatter<W>, fault: UnitsFault) -> fmt::Result {
     match fault {
         UnitsFault::At { flaw, place } => write_entry(f, "units", place, units_reason(flaw)),
@@ -69,7 +69,7 @@ fn write_units<W: Write>(f: &mut Formatter<W>, fault: UnitsFault) -> fmt::Result
     }
 }
 
-// Writes a document, the entry of it at which a fault stands, if there is one, and what is wrong there.
+// Writes a document, its entry with the fault, if there is one, and what is wrong there.
 fn write_entry<W: Write>(
     f: &mut Formatter<W>,
     document: &str,

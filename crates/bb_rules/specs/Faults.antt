@@ -1,4 +1,4 @@
--- What is wrong with a source: the numbers by which refusals name it, and its place.
+-- The faults of a source: their numbers in refusal lines, and their places.
 use Rattle.std.specs.Prelude.{ℕ}
 use Rattle.bb_rules.specs.declared.fault.ClauseFlaw.{ClauseFlaw}
 use Rattle.bb_rules.specs.declared.fault.ClauseFlaw.TheVariants as flaws
@@ -17,7 +17,7 @@ fault_number (Twice place) = 6
 fault_number (Limit place) = 7
 fault_number (Native place) = 8
 
--- the fault of the clause of this index in a list
+-- the fault of the clause at this index of a list
 abbrev pub at_clause : ClauseList → (index : ℕ) → ClauseFlaw → RuleFault
 at_clause list index flaws.Slot = Slot (record { list = list; index = index })
 at_clause list index flaws.Space = Space (record { list = list; index = index })

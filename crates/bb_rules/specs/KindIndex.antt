@@ -1,4 +1,4 @@
--- Numbers that are kept for each kind of change.
+-- Sets of numbers for each kind of change.
 use Rattle.std.specs.Prelude.{◌==◌, ℕ, Bool, List, [], ◌∷◌, ◌++◌, if◌then◌else◌}
 use Rattle.std.specs.List.{list_any}
 use Rattle.std.specs.Option.{option_map_or}
@@ -12,11 +12,11 @@ use Rattle.bb_rules.specs.declared.kind_index.KindIndex.{KindIndex}
 abbrev pub has : List ℕ → ℕ → Bool
 has ns n = list_any (λ d. d == n) ns
 
--- the numbers and one more, the last, unless it is there
+-- the numbers with another appended, unless they contain it
 abbrev pub put : List ℕ → ℕ → List ℕ
 put ns n = if has ns n then ns else ns ++ n ∷ []
 
--- the numbers and one more, the last, where it is to be added and is not there
+-- the numbers with another appended, if it is to be added and they do not contain it
 abbrev pub put_if : Bool → List ℕ → ℕ → List ℕ
 put_if added ns n = if added then put ns n else ns
 

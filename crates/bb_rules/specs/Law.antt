@@ -1,4 +1,4 @@
--- What holds of every source, and of every one that was made under a schema.
+-- The laws of every source, and of every source made under a schema.
 use Rattle.std.specs.Prelude.{◌≡◌, ℕ, true, All, Option, Some, Ok}
 use Rattle.bb_schema.specs.Schema.{Schema, descends}
 use Rattle.bb_verify.specs.Accepted.{Checked, IsSound, checked}
@@ -38,9 +38,9 @@ pub record IsOf (s : Schema) (source : Source) : Type 0 where
   pub revalidate : IsPart (parts.Revalidate source.class) source.revalidate
   pub act : (c : Checked) → source.act ≡ acts.Code c → c.part ≡ parts.Do source.class
 
--- ---- whatever the schema
+-- ---- under any schema
 
--- each code of a source was accepted, and what it asks may not write
+-- each code of a source was accepted, and the codes it asks may not write
 pub record HasSoundCodes (source : Source) : Type 0 where
   pub require : (c : Checked) → source.require ≡ Some c → IsQuestion c
   pub obviate : (r : Reaction) → source.obviate ≡ Some r → IsQuestion r.code
@@ -62,7 +62,7 @@ pub record AreAccepted (s : Schema) (draft : SourceDraft Checked) : Type 0 where
   pub revalidate : (c : Checked) → draft.parts.revalidate ≡ Some c → IsAccepted s c
   pub act : (c : Checked) → draft.act ≡ drafts.Do c → IsAccepted s c
 
--- a source that was made of codes that were accepted
+-- a source made of codes that were accepted
 pub record IsMade (s : Schema) (source : Source) : Type 0 where
   pub law : IsOf s source
   pub require : (c : Checked) → source.require ≡ Some c → IsAccepted s c

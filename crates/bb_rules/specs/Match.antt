@@ -1,4 +1,4 @@
--- When a clause names an event, and when an event triggers a source (GBBopen Reference Manual, trigger events of a KS).
+-- When a clause names an event, and when an event triggers a source: GBBopen's trigger events of a knowledge source.
 use Rattle.std.specs.Prelude.{Bool, true, false, ◌&&◌, ◌==◌, List}
 use Rattle.std.specs.List.{list_any}
 use Rattle.bb_schema.specs.Schema.{Schema, descends}
@@ -10,7 +10,7 @@ use Rattle.bb_board.specs.Events.{kind_of}
 use Rattle.bb_rules.specs.declared.clause.Clause.{Clause}
 use Rattle.bb_rules.specs.declared.clause.Clause.TheVariants as clauses
 
--- the two kinds of change are one, with its slot or space
+-- the two kinds of change are the same, with the same slot or space
 abbrev pub is_same_kind : ChangeKind → ChangeKind → Bool
 is_same_kind Create Create = true
 is_same_kind Delete Delete = true
@@ -29,6 +29,6 @@ matches s (clauses.Change kind class) (events.Change unit of change) =
     is_same_kind kind (kind_of change) && descends s of class
 matches s _ _ = false
 
--- one or more of the clauses name the event
+-- at least one of the clauses names the event
 abbrev pub any_match : Schema → List Clause → Event → Bool
 any_match s clauses event = list_any (λ c. matches s c event) clauses

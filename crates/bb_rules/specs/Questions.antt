@@ -1,4 +1,4 @@
--- Which codes a source may ask.
+-- The codes that a source may ask.
 use Rattle.std.specs.Prelude.{◌≡◌, Err}
 use Rattle.bb_verify.specs.Accepted.{Checked, IsSound}
 use Rattle.bb_verify.specs.Flaw.TheVariants as flaws

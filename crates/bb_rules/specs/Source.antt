@@ -1,4 +1,4 @@
--- The source that a draft makes under a schema: its names are looked up, up to the first that does not fit.
+-- The source that a draft makes under a schema: its names are looked up, until one does not fit.
 use Rattle.std.specs.Prelude.{ℕ, Bool, false, ◌&&◌, ◌==◌, List, Option, Some, None, option_map, is_some}
 use Rattle.std.specs.Prelude.{Result, Ok, Err, if◌then◌else◌}
 use Rattle.bb_basis.specs.Results.{◌>>=◌, ok_or, try_map_at}
@@ -13,7 +13,7 @@ use Rattle.bb_bundle.specs.declared.draft.ActDraft.{ActDraft}
 use Rattle.bb_bundle.specs.declared.draft.ActDraft.TheVariants as drafts
 use Rattle.bb_bundle.specs.declared.draft.SourceDraft.{SourceDraft}
 use Rattle.bb_schema.specs.Schema.{Schema, class_named, default_of, descends, slot_named, space_named}
-use Rattle.bb_schema_slots.specs.Slots.{link_of}
+use Rattle.bb_schema.specs.Slots.{link_of}
 use Rattle.bb_verify.specs.Accepted.{Checked}
 use Rattle.bb_verify.specs.PartType.{Part}
 use Rattle.bb_verify.specs.PartType.TheVariants as parts
@@ -40,7 +40,7 @@ use Rattle.bb_rules.specs.Faults.{at_clause}
 abbrev pub class_of : Schema → ClassPlace → List ℕ → Result ℕ RuleFault
 class_of s place name = ok_or (class_named s name) (faults.Class place)
 
--- the class of a reaction, if there is one, which is named at this place
+-- the class of a reaction, if there is one, named at this place
 abbrev pub reaction_class : {C : Type 0} → Schema → ClassPlace → Option (ReactionDraft C) → Result (Option ℕ) RuleFault
 reaction_class s place None = Ok None
 reaction_class s place (Some draft) = do
@@ -55,7 +55,7 @@ classes_of s draft = do
   retriggered ← reaction_class s places.Retrigger draft.parts.retrigger
   Ok (record { own = own; obviated = obviated; retriggered = retriggered })
 
--- the parts of its reactions, which go by their classes
+-- the parts of its reactions, with their classes
 abbrev pub obviate_part : Classes → Option Part
 obviate_part c = option_map (parts.Obviate c.own) c.obviated
 
@@ -64,7 +64,7 @@ retrigger_part c = option_map (parts.Retrigger c.own) c.retriggered
 
 -- ---- codes
 
--- the two parts are one, of the same classes
+-- the two parts are the same, with the same classes
 abbrev pub is_same_part : Part → Part → Bool
 is_same_part (parts.Require class) (parts.Require other) = class == other
 is_same_part (parts.Obviate class of) (parts.Obviate other from) = class == other && of == from
@@ -73,7 +73,7 @@ is_same_part (parts.Revalidate class) (parts.Revalidate other) = class == other
 is_same_part (parts.Do class) (parts.Do other) = class == other
 is_same_part _ _ = false
 
--- a code was accepted for this part, if there is one
+-- a code, if there is one, was accepted for this part
 abbrev pub is_for : Part → Option Checked → Result (Unit {0}) RuleFault
 is_for part None = Ok tt
 is_for part (Some code) = if is_same_part code.part part then Ok tt else Err faults.Part
@@ -87,7 +87,7 @@ abbrev pub act_code : ActDraft Checked → Option Checked
 act_code (drafts.Do code) = Some code
 act_code drafts.Native = None
 
--- a reaction's code was accepted for its part, if there is one
+-- a reaction's code, if there is one, was accepted for its part
 abbrev pub is_for_reaction : Option Part → Option Checked → Result (Unit {0}) RuleFault
 is_for_reaction None code = Ok tt
 is_for_reaction (Some part) code = is_for part code
@@ -103,19 +103,19 @@ parts_fit c draft = do
 
 -- ---- clauses
 
--- the class of a name, where it is this one or descends from it
+-- the class of a name, if it is this one or descends from it
 abbrev pub class_within : Schema → ℕ → List ℕ → Result ℕ ClauseFlaw
 class_within s class name = do
   changed ← ok_or (class_named s name) flaws.Class
   if descends s changed class then Ok changed else Err flaws.Class
 
--- the ordinary slot of a name in a class
+-- the ordinary slot with a name in a class
 abbrev pub ordinary_slot : Schema → ℕ → List ℕ → Result ℕ ClauseFlaw
 ordinary_slot s class name = do
   slot ← ok_or (slot_named s class name) flaws.Slot
   if is_some (default_of s slot) then Ok slot else Err flaws.Slot
 
--- the link slot of a name in a class
+-- the link slot with a name in a class
 abbrev pub link_slot : Schema → ℕ → List ℕ → Result ℕ ClauseFlaw
 link_slot s class name = do
   slot ← ok_or (slot_named s class name) flaws.Slot
@@ -125,7 +125,7 @@ link_slot s class name = do
 abbrev pub space_of : Schema → List ℕ → Result ℕ ClauseFlaw
 space_of s name = ok_or (space_named s name) flaws.Space
 
--- the kind of change of a clause of this class
+-- the kind of change in a clause with this class
 abbrev pub kind_of : Schema → ℕ → ChangeText → Result ChangeKind ClauseFlaw
 kind_of s class changes.Create = Ok kinds.Create
 kind_of s class changes.Delete = Ok kinds.Delete
@@ -153,13 +153,13 @@ clause_of s within (texts.Change kind name) = do
   Ok (clauses.Change change class)
 clause_of s within texts.Quiescence = Ok clauses.Quiescence
 
--- all clauses of a list, in order, a flaw with its place in there
+-- all clauses of a list, in order; a flaw gets its place in the list
 abbrev pub clauses_of : Schema → ClauseList → (within : ℕ) → List ClauseText → Result (List Clause) RuleFault
 clauses_of s list within texts = try_map_at (at_clause list) (clause_of s within) 0 texts
 
 -- ---- the source
 
--- a reaction, if there is one, whose clauses are this list
+-- a reaction, if there is one, with its clauses looked up as this list
 abbrev pub reaction_of : Schema → ClauseList → Option ℕ → Option (ReactionDraft Checked) → Result (Option Reaction) RuleFault
 reaction_of s list (Some class) (Some draft) = do
   found ← clauses_of s list class draft.clauses
@@ -171,7 +171,7 @@ abbrev pub act_of : ActDraft Checked → Act
 act_of (drafts.Do code) = acts.Code code
 act_of drafts.Native = acts.Native
 
--- the source of a draft, with its class, its triggers and its reactions as they were found
+-- the source of a draft, with the class, triggers and reactions that were found
 abbrev pub made_of : SourceDraft Checked → Classes → List Clause → (obviate retrigger : Option Reaction) → Source
 made_of draft c triggers obviate retrigger = record {
   name = draft.header.name;
@@ -185,7 +185,7 @@ made_of draft c triggers obviate retrigger = record {
   act = act_of draft.act;
 }
 
--- the classes are looked up, then each code has to be for its part, then each clause is looked up
+-- the classes are looked up, then each code must be for its part, then each clause is looked up
 unfoldable pub source_of : Schema → SourceDraft Checked → Result Source RuleFault
 source_of s draft = do
   c ← classes_of s draft

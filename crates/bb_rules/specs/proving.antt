@@ -2,5 +2,5 @@
 pub mod Index
 -- the steps by which the code makes a source
 pub mod Steps
--- how sources are stored as data
+-- an injective encoding of sources
 pub mod Codes

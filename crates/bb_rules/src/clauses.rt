@@ -1,5 +1,5 @@
-//! The clauses of a source, found by the kind of an event. A source has its triggers in `Clauses`, and a reaction its
-//! clauses.
+//! Lists of clauses, with an index by the kind of an event. The triggers of a source are `Clauses`, and so are the
+//! clauses of a reaction.
 
 ghost use Rattle.std.specs.Prelude.{◌≡◌, ◌∷◌, ◌++◌, [], IfOk};
 ghost use Rattle.std.specs.List.{list_any};
@@ -15,17 +15,17 @@ use bb_schema::{ClassId, Schema};
 use std::alloc::{AllocError, Global};
 use std::marker::Model;
 
-/// Clauses in order. Whether one of them names an event is found by the event's kind, and by the classes that clauses
-/// of that kind name, however many clauses there are.
+/// Clauses in order. Whether one of them names an event is looked up by the event's kind, among the classes that
+/// clauses of that kind name, regardless of the number of clauses.
 pub struct Clauses {
     list: Items<Clause>,
-    // An index of the classes that the clauses name.
+    // The classes that the clauses name, by kind.
     index: KindIndex,
     // Whether one of the clauses is `Quiescence`.
     quiescence: bool,
 }
 
-// By hand, so that a proof meets one call where it is dropped, and not each of its parts.
+// Written by hand, so that a proof meets one call when it is dropped, not each of its parts.
 impl Drop for Clauses {
     fn drop(self) {
         let Clauses {
@@ -49,7 +49,7 @@ impl Model for Clauses {
 }
 
 impl Clauses {
-    /// No clauses. It allocates nothing.
+    /// Creates an empty list. Allocates nothing.
     pub(crate) fn new(alloc: Global) -> Clauses
         ensures { result ≡ [] }
     {
@@ -60,14 +60,14 @@ impl Clauses {
         }
     }
 
-    /// The clauses, in order.
+    /// Returns the clauses, in order.
     pub fn as_slice(&self) -> &[Clause]
         ensures { result.now ≡ self.now }
     {
         self.list.as_slice()
     }
 
-    /// The clauses and one more, the last.
+    /// Appends a clause.
     pub(crate) fn and(self, clause: Clause) -> Result<Clauses, AllocError>
         ensures { IfOk result (λ clauses. clauses ≡ self ++ clause ∷ []) }
     {
@@ -91,7 +91,7 @@ impl Clauses {
         })
     }
 
-    /// Whether one of the clauses names an event.
+    /// Returns whether one of the clauses names an event.
     pub fn match_any(&self, schema: &Schema, event: Event) -> bool
         ensures { result ≡ any_match schema.now self.now event }
     {
@@ -104,7 +104,7 @@ impl Clauses {
     }
 }
 
-// Whether a class descends from one that the index has for a kind.
+// Returns whether a class descends from one that the index has for a kind.
 fn descends_from_named(schema: &Schema, class: ClassId, index: &KindIndex, kind: ChangeKind) -> bool
     ensures { result ≡ list_any (λ d. descends schema.now class d) (ids_for index.now kind) }
 {
@@ -114,7 +114,8 @@ fn descends_from_named(schema: &Schema, class: ClassId, index: &KindIndex, kind:
     }
 }
 
-// Whether a class descends from one of these, 256 at most: two comparisons each, however deep the class is.
+// Returns whether a class descends from one of these, at most 256. This takes two comparisons for each, however deep
+// the class is.
 fn descends_from_one(schema: &Schema, class: ClassId, named: &[ClassId]) -> bool
     ensures { result ≡ list_any (λ d. descends schema.now class d) named.now }
 {

@@ -1,5 +1,4 @@
-//! The codes of a source, part by part. The warnings and the table of costs go through them, and so do `most_steps` and
-//! `creates`.
+//! The codes of a source, part by part, for the warnings, the table of costs, `most_steps` and `creates`.
 
 ghost use Rattle.std.specs.Prelude.{◌≡◌, map, option_map};
 ghost use Rattle.bb_rules.specs.Codes.{act_code, codes_of};
@@ -8,7 +7,7 @@ use crate::question::Question;
 use crate::source::{Act, Reaction, Source};
 use bb_verify::Checked;
 
-/// The code of a question, if there is one.
+/// Returns the code of a question, if there is one.
 pub(crate) fn asked(question: &Option<Question>) -> Option<&Checked>
     ensures { option_map (λ c. c.now) result ≡ question.now }
 {
@@ -18,7 +17,7 @@ pub(crate) fn asked(question: &Option<Question>) -> Option<&Checked>
     }
 }
 
-/// The code of a reaction, if there is one.
+/// Returns the code of a reaction, if there is one.
 pub(crate) fn reacting(reaction: &Option<Reaction>) -> Option<&Checked>
     ensures { option_map (λ c. c.now) result ≡ option_map (λ r. r.code) reaction.now }
 {
@@ -28,7 +27,7 @@ pub(crate) fn reacting(reaction: &Option<Reaction>) -> Option<&Checked>
     }
 }
 
-/// The code of an act, if it has one.
+/// Returns the code of an act, if it has one.
 pub(crate) fn acting(act: &Act) -> Option<&Checked>
     ensures { option_map (λ c. c.now) result ≡ act_code act.now }
 {
@@ -39,7 +38,7 @@ pub(crate) fn acting(act: &Act) -> Option<&Checked>
 }
 
 impl Source {
-    /// The codes of require, obviate, retrigger, revalidate and do, where the source has these.
+    /// Returns the codes of require, obviate, retrigger, revalidate and do, those that the source has.
     pub fn codes(&self) -> [Option<&Checked>; 5]
         ensures { map (option_map (λ c. c.now)) result ≡ codes_of self.now }
     {

@@ -1,4 +1,4 @@
-//! What a source may cost. A host asks before it lets a source run that it did not write.
+//! What a source may cost. A host asks before it runs a source that somebody else wrote.
 
 ghost use Rattle.std.specs.Prelude.{◌≡◌, ◌≤◌, option_map};
 ghost use Rattle.std.specs.List.{list_any};
@@ -42,8 +42,8 @@ fn can_create(code: Option<&Checked>) -> bool
 }
 
 impl Source {
-    /// The greatest number of steps that an execution of one of its codes can make, where no sequence that it finds has
-    /// more than `found` units; 0 where it has no code. An execution can find `FOUND_LIMIT` units at most.
+    /// Returns the maximum number of steps that an execution of one of its codes can make, if no sequence it finds has
+    /// more than `found` units; 0 if it has no code. An execution can find at most `FOUND_LIMIT` units.
     pub fn most_steps(&self, found: u32) -> u128
         requires { found ≤ FOUND_LIMIT }
         ensures { result ≡ most_steps self.now found }
@@ -57,7 +57,7 @@ impl Source {
         require.max(revalidate).max(obviate.max(retrigger)).max(act)
     }
 
-    /// Whether one of its codes has an op that makes a unit.
+    /// Returns whether one of its codes has an op that makes a unit.
     pub fn creates(&self) -> bool
         ensures { result ≡ creates self.now }
     {

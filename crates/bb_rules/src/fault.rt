@@ -1,4 +1,4 @@
-//! Why a source is refused, and where in it that is. Refusal lines name it by its number.
+//! Faults of sources, with their places. Refusal lines have their numbers.
 
 ghost use Rattle.std.specs.Prelude.{◌≡◌};
 ghost use Rattle.bb_basis.specs.Results.{map_err};
@@ -40,7 +40,7 @@ pub enum RuleFault {
 }
 
 impl RuleFault {
-    /// The number by which a refusal line names the fault, from 1 to 8.
+    /// Returns the number of the fault in a refusal line, from 1 to 8.
     pub fn number(self) -> u8
         ensures { result ≡ fault_number self }
     {
@@ -73,7 +73,7 @@ impl<T: Drop> From<AllocFailed<T>> for RuleFault {
     }
 }
 
-/// What is wrong with a clause, wherever it stands.
+/// What is wrong with a clause, without its place.
 #[derive(Clone, Copy, Debug, PartialEq, Eq)]
 pub(crate) enum ClauseFlaw {
     /// The class of the clause has no slot of that name and sort.
@@ -85,7 +85,7 @@ pub(crate) enum ClauseFlaw {
 }
 
 impl ClauseFlaw {
-    /// The fault of the clause at a place that has this flaw.
+    /// Returns the fault of the clause at a place that has this flaw.
     pub(crate) fn at(self, place: ClausePlace) -> RuleFault
         ensures { result ≡ at_clause place.list place.index self }
     {
@@ -99,7 +99,7 @@ impl ClauseFlaw {
     }
 }
 
-/// The answer of the clause at a place, a flaw as the fault there.
+/// Turns the flaw of the clause at a place into the fault there.
 pub(crate) fn placed<T>(answer: Result<T, ClauseFlaw>, place: ClausePlace) -> Result<T, RuleFault>
     ensures { result ≡ map_err (at_clause place.list place.index) answer }
 {

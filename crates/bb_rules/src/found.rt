@@ -1,4 +1,4 @@
-//! What the names in a draft stand for: classes, and the events that a source answers. `Source::new` looks them up.
+//! What the names in a draft stand for: classes, and the events that a source responds to. `Source::new` looks them up.
 
 ghost use Rattle.bb_basis.specs.Results.{Gives};
 ghost use Rattle.bb_rules.specs.proving.Steps.{found, found_with};
@@ -20,14 +20,15 @@ pub(crate) struct Found {
     pub classes: Classes,
     /// The events that trigger the source.
     pub triggers: Clauses,
-    /// The events that make pending activations needless, if the source has a part for them.
+    /// The events that may obviate pending activations, if the source has `obviate`.
     pub obviating: Option<Clauses>,
-    /// The events that give pending activations another base rating, if the source has a part for them.
+    /// The events that may give pending activations another base rating, if the source has `retrigger`.
     pub retriggering: Option<Clauses>,
 }
 
 impl Found {
-    /// Looks up a draft's classes, then sees that each code is for its part, and looks up the clauses.
+    /// Looks up the classes of a draft, then checks that each code was accepted for its part, then looks up the
+    /// clauses.
     #[tactic(auto, unfolding(crate::specs::proving::Steps::found))]
     pub(crate) fn of(
         alloc: Global,
@@ -41,7 +42,7 @@ impl Found {
         Found::with_classes(alloc, schema, classes, draft)
     }
 
-    // Looks up the clauses of a draft, whose classes are known: its triggers first.
+    // Looks up the clauses of a draft whose classes are known, its triggers first.
     #[tactic(auto, unfolding(crate::specs::proving::Steps::found_with))]
     fn with_classes<C>(
         alloc: Global,

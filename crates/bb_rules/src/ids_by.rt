@@ -1,4 +1,4 @@
-//! A set of numbers for each slot, or for each space. `KindIndex` has them.
+//! Sets of numbers by slot, or by space, for `KindIndex`.
 
 ghost use Rattle.std.specs.Prelude.{◌≡◌, ◌==◌, ℕ, [], IsSome, OnOk};
 ghost use Rattle.std.specs.Option.{option_map_or};
@@ -16,7 +16,7 @@ pub(crate) struct IdsBy {
     sets: BTreeMap<u16, IdSet>,
 }
 
-// By hand, so that a proof meets one call where it is dropped, and not each of its parts.
+// Written by hand, so that a proof meets one call when it is dropped, not each of its parts.
 impl Drop for IdsBy {
     fn drop(self) {
         let IdsBy { alloc: _, sets: _ } = self;
@@ -24,7 +24,7 @@ impl Drop for IdsBy {
 }
 
 impl IdsBy {
-    /// None for any slot or space. It allocates nothing.
+    /// Creates an empty map. Allocates nothing.
     pub(crate) fn new(alloc: Global) -> IdsBy
         ensures { (n : ℕ) → ids_at result.sets n ≡ [] }
     {
@@ -34,14 +34,14 @@ impl IdsBy {
         }
     }
 
-    /// The numbers for a slot or space, if there are any.
+    /// Returns the numbers for a slot or space, if there are any.
     pub(crate) fn at(&self, key: u16) -> Option<&IdSet>
         ensures { option_map_or (λ set. set.now) result [] ≡ ids_at self.now.sets key }
     {
         self.sets.get(&key)
     }
 
-    /// Adds a number for a slot or space, the last, unless it is there.
+    /// Appends a number for a slot or space, unless the set has it.
     pub(crate) fn add(&mut self, key: u16, id: u16) -> Result<(), AllocError>
         ensures { OnOk result ((n : ℕ) →
             ids_at self.new.sets n ≡ put_if (key == n) (ids_at self.old.sets n) id) }
@@ -56,7 +56,7 @@ impl IdsBy {
     }
 }
 
-// Adds a number to the set of a slot or space that has one.
+// Appends a number to the set of a slot or space, which must exist.
 fn add_at(sets: &mut BTreeMap<u16, IdSet>, key: u16, id: u16) -> Result<(), AllocError>
     requires { IsSome (get nat_cmp sets.old key) }
     ensures { OnOk result ((n : ℕ) → ids_at sets.new n ≡ put_if (key == n) (ids_at sets.old n) id) }
@@ -67,7 +67,7 @@ fn add_at(sets: &mut BTreeMap<u16, IdSet>, key: u16, id: u16) -> Result<(), Allo
     }
 }
 
-/// Adds a number to a set, the last, unless it is there.
+/// Appends a number to a set, unless the set has it.
 pub(crate) fn include(set: &mut IdSet, id: u16) -> Result<(), AllocError>
     ensures { OnOk result (set.new ≡ put set.old id) }
 {

@@ -1,5 +1,5 @@
-//! Numbers for each kind of change: of classes, by which `Clauses` finds whether a clause names an event, or of
-//! sources, by which a plan (bb_run_plan) finds those that an event concerns.
+//! An index of numbers by kind of change. `Clauses` keeps the classes that its clauses name; a plan (bb_run_plan) keeps
+//! the sources that an event concerns.
 
 ghost use Rattle.std.specs.Prelude.{◌≡◌, ℕ, [], OnOk};
 ghost use Rattle.std.specs.Option.{option_map_or};
@@ -12,8 +12,8 @@ use bb_basis::IdSet;
 use bb_board::ChangeKind;
 use std::alloc::{AllocError, Global};
 
-/// A set of numbers for each kind of change, in the order in which they were added. Those of a kind are found by the
-/// order of slots or spaces.
+/// A set of numbers for each kind of change, in the order in which they were added. The set of a kind that has a slot
+/// or space is found in an ordered map.
 pub struct KindIndex {
     created: IdSet,
     deleted: IdSet,
@@ -24,7 +24,7 @@ pub struct KindIndex {
     left: IdsBy,
 }
 
-// By hand, so that a proof meets one call where it is dropped, and not each of its parts.
+// Written by hand, so that a proof meets one call when it is dropped, not each of its parts.
 impl Drop for KindIndex {
     fn drop(self) {
         let KindIndex {
@@ -40,7 +40,7 @@ impl Drop for KindIndex {
 }
 
 impl KindIndex {
-    /// No number for any kind. It allocates nothing.
+    /// Creates an index without numbers. Allocates nothing.
     pub fn new(alloc: Global) -> KindIndex
         ensures { (kind : Kind) → ids_for result kind ≡ [] }
     {
@@ -55,7 +55,7 @@ impl KindIndex {
         }
     }
 
-    /// The numbers for a kind, if there are any.
+    /// Returns the numbers for a kind, if there are any.
     pub fn at(&self, kind: ChangeKind) -> Option<&IdSet>
         ensures { option_map_or (λ set. set.now) result [] ≡ ids_for self.now kind }
     {
@@ -70,7 +70,7 @@ impl KindIndex {
         }
     }
 
-    /// Adds a number for a kind, the last, unless it is there.
+    /// Appends a number for a kind, unless the set has it.
     pub fn add(&mut self, kind: ChangeKind, id: u16) -> Result<(), AllocError>
         ensures { OnOk result ((k : Kind) →
             ids_for self.new k ≡ put_if (is_same_kind kind k) (ids_for self.old k) id) }

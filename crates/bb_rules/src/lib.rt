@@ -1,9 +1,10 @@
-//! Sources with their names looked up and their codes accepted, and which events they answer.
+//! Sources whose names are looked up and whose codes are accepted, and the events they respond to.
 //!
 //! - In: a source of a bundle, with `Checked` codes, and a schema.
-//! - Out: `Source::new`, or the first `RuleFault` with the clause or class that it is at.
-//! - Callers rely on: each code is for its part, the parts that a source is asked by can only read, and which clauses
-//!   match an event is found by its kind and class. `most_steps` and `creates` of a source say what it may cost.
+//! - Out: `Source::new`, the source, or the first `RuleFault` with the clause or class at fault.
+//! - Callers rely on: each code was accepted for its part; codes of parts other than `do` cannot write; whether an
+//!   event matches a list of clauses is looked up by the event's kind and class. `most_steps` and `creates` return what
+//!   a source may cost.
 //! - Cases: `triggers`, `bundles`; tests in bb_rules_tests.
 #![tactic(auto)]
 

@@ -1,5 +1,5 @@
-//! Whether a question about a pending activation comes to no wherever its unit is not the event's. `Question::asks_own`
-//! answers it, so that an event asks about its own unit's activations alone.
+//! Recognizes, by their first ops, questions whose answer is no for every pending activation whose unit is not the
+//! event's. `Question::asks_own` calls it, so that an event asks only about the activations for its own unit.
 
 ghost use Rattle.std.specs.Prelude.{◌≡◌, slice_get};
 ghost use Rattle.bb_rules.specs.Own.{answers, asks_own, begins_with_own, compares_units, loads, refuses, says_no};
@@ -39,7 +39,7 @@ fn answers(op: Option<Op>) -> bool
     }
 }
 
-// Whether the op at a place, with the one behind it, says no.
+// Returns whether the op at a place, with the next one, makes the answer no.
 fn says_no(code: &Code, place: Place) -> bool
     ensures { result ≡ says_no code.now place (slice_get code.now.ops place) }
 {
@@ -51,7 +51,7 @@ fn says_no(code: &Code, place: Place) -> bool
     }
 }
 
-// Whether an op behind a comparison in the first three comes to no where that was false.
+// Returns whether this op, after a comparison in the first three, makes the answer no if the comparison was false.
 fn refuses(code: &Code, op: Option<Op>) -> bool
     ensures { result ≡ refuses code.now op }
 {
@@ -62,7 +62,7 @@ fn refuses(code: &Code, op: Option<Op>) -> bool
     }
 }
 
-// Whether the first three ops compare the activation's unit with the event's.
+// Returns whether the first three ops compare the activation's unit with the event's.
 fn begins_with_own(code: &Code) -> bool
     ensures { result ≡ begins_with_own code.now }
 {
@@ -71,7 +71,7 @@ fn begins_with_own(code: &Code) -> bool
     both && compares_units(code.op(2))
 }
 
-/// Whether a code begins with that comparison, and says no where the units differ.
+/// Returns whether a code begins with that comparison, and its answer is no if the units differ.
 pub(crate) fn asks_own(code: &Code) -> bool
     ensures { result ≡ asks_own code.now }
 {

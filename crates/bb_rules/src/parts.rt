@@ -1,4 +1,4 @@
-//! Whether the codes of a source were accepted for their parts. `Source::new` asks.
+//! Checks that the codes of a source were accepted for their parts. `Source::new` calls it.
 
 ghost use Rattle.std.specs.Prelude.{◌≡◌, option_map};
 ghost use Rattle.bb_rules.specs.Source.{act_code, is_for, is_for_reaction, is_same_part, parts_fit, reaction_code};
@@ -14,7 +14,7 @@ fn is_same_part(part: Part, other: Part) -> bool
     part == other
 }
 
-// Whether a code was accepted for this part, if there is one.
+// Checks that a code, if there is one, was accepted for this part.
 fn is_for(part: Part, code: Option<&Checked>) -> Result<(), RuleFault>
     ensures { result ≡ is_for part (option_map (λ c. c.now) code.entry) }
 {
@@ -42,7 +42,7 @@ fn act_code(draft: &ActDraft<Checked>) -> Option<&Checked>
     }
 }
 
-// Whether the code of a reaction was accepted for its part, if there is one.
+// Checks that the code of a reaction, if there is one, was accepted for its part.
 fn is_for_reaction(part: Option<Part>, code: Option<&Checked>) -> Result<(), RuleFault>
     ensures { result ≡ is_for_reaction part (option_map (λ c. c.now) code.entry) }
 {
@@ -52,7 +52,7 @@ fn is_for_reaction(part: Option<Part>, code: Option<&Checked>) -> Result<(), Rul
     }
 }
 
-/// Whether each code of a draft was accepted for its part and these classes.
+/// Checks that each code of a draft was accepted for its part and these classes. `Part`: one was not.
 #[tactic(auto, unfolding(crate::specs::Source::parts_fit))]
 pub(crate) fn parts_fit(classes: Classes, draft: &SourceDraft<Checked>) -> Result<(), RuleFault>
     ensures { result ≡ parts_fit classes draft.now }

@@ -1,4 +1,4 @@
-//! Where in a source a fault is. A `RuleFault` has it.
+//! Places of faults in a source, for `RuleFault`.
 
 /// A list of clauses of a source.
 #[derive(Clone, Copy, Debug, PartialEq, Eq)]
@@ -11,7 +11,7 @@ pub enum ClauseList {
     Retrigger,
 }
 
-/// A clause of a source: its list, and its index in there, from 0.
+/// A clause of a source: its list, and its index in the list, from 0.
 #[derive(Clone, Copy, Debug, PartialEq, Eq)]
 pub struct ClausePlace {
     pub list: ClauseList,

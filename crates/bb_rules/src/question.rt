@@ -1,4 +1,5 @@
-//! The codes that a source asks. `Source::new` makes them of accepted codes, and the run (bb_run) asks them.
+//! The codes that a source asks: those of parts other than `do`. `Source::new` makes them of accepted codes, and the
+//! run (bb_run) asks them.
 
 ghost use Rattle.std.specs.Prelude.{◌≡◌, Err};
 ghost use Rattle.bb_verify.specs.Flaw.TheVariants.{Effect};
@@ -35,27 +36,27 @@ impl Question {
         requires { writes code.part ≡ Err Effect }
         ensures { result ≡ code }
     {
-        // For the proof: what holds of the code.
+        // For the proof: the code's invariant.
         code.fits();
         Question { code }
     }
 
-    /// The code.
+    /// Returns the code.
     pub fn checked(&self) -> &Checked
         ensures { result.now ≡ self.now }
     {
         &self.code
     }
 
-    /// Whether its first ops compare the activation's unit with the event's, and it says no where they differ: then an
-    /// event need ask it only about the activations for its own unit.
+    /// Returns whether its first ops compare the activation's unit with the event's, and its answer is no if they
+    /// differ. If so, an event need ask it only about the activations for the event's own unit.
     pub fn asks_own(&self) -> bool
         ensures { result ≡ asks_own self.now.code }
     {
         own::asks_own(self.code.code())
     }
 
-    /// What holds of every question: it was accepted under some schema, for a part that may not write.
+    /// Exposes the invariant: the code was accepted under some schema, for a part that may not write. Does nothing.
     pub fn fits(&self)
         ensures { IsQuestion self.now }
     {

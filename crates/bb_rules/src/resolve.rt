@@ -1,4 +1,4 @@
-//! The classes and clauses of a source by their names. `Source::new` looks them up.
+//! Looks up the classes and clauses of a source by their names. `Source::new` calls it.
 
 ghost use Rattle.std.specs.Prelude.{◌≡◌};
 ghost use Rattle.bb_basis.specs.Results.{Gives};
@@ -22,15 +22,14 @@ use std::alloc::Global;
 pub struct Classes {
     /// The class of the units that it works on.
     pub own: ClassId,
-    /// The class of the units whose events make its pending activations needless.
+    /// The class of the units whose events may obviate its pending activations.
     pub obviated: Option<ClassId>,
-    /// The class of the units whose events give its pending activations another base rating.
+    /// The class of the units whose events may give its pending activations another base rating.
     pub retriggered: Option<ClassId>,
 }
 
 impl Classes {
-    /// Looks up the classes that a draft names, its own first. The fault is `Class` where one is unknown, with its
-    /// place.
+    /// Looks up the classes that a draft names, its own first. `Class`: a class is unknown; the fault has its place.
     #[tactic(auto, unfolding(crate::specs::Source::classes_of))]
     pub fn find<C>(schema: &Schema, draft: &SourceDraft<C>) -> Result<Classes, RuleFault>
         ensures { result ≡ classes_of schema.now draft.now }
@@ -45,7 +44,7 @@ impl Classes {
         })
     }
 
-    /// The part of the code that obviates, if there is one.
+    /// Returns the part of the code of `obviate`, if the source has one.
     pub fn obviate_part(self) -> Option<Part>
         ensures { result ≡ obviate_part self }
     {
@@ -55,7 +54,7 @@ impl Classes {
         })
     }
 
-    /// The part of the code that retriggers, if there is one.
+    /// Returns the part of the code of `retrigger`, if the source has one.
     pub fn retrigger_part(self) -> Option<Part>
         ensures { result ≡ retrigger_part self }
     {
@@ -66,7 +65,7 @@ impl Classes {
     }
 }
 
-// The class of a name at a place outside clauses.
+// Looks up a class that is named outside clauses, at a place.
 fn class_of(schema: &Schema, place: ClassPlace, name: &str) -> Result<ClassId, RuleFault>
     ensures { result ≡ class_of schema.now place name.now }
 {
@@ -86,7 +85,7 @@ fn reaction_class<C>(
     }
 }
 
-// The class of a clause, which is this one or descends from it.
+// Looks up the class of a clause, which must be `within` or descend from it.
 fn class_within(schema: &Schema, within: ClassId, name: &str) -> Result<ClassId, ClauseFlaw>
     ensures { result ≡ class_within schema.now within name.now }
 {

@@ -1,4 +1,5 @@
-//! A source. bb_shell makes it from a bundle, and the run (bb_run) asks which events it answers and executes its codes.
+//! Sources. bb_shell makes them from a bundle; the run (bb_run) asks which events they respond to, and executes their
+//! codes.
 
 ghost use Rattle.std.specs.Prelude.{◌≡◌, Err, IfOk, IfSome, Ok, Some};
 ghost use Rattle.bb_basis.specs.Results.{Gives};
@@ -25,11 +26,11 @@ use std::marker::Model;
 pub enum Act {
     /// The source executes a code.
     Code(Checked),
-    /// The source runs a native source of the host.
+    /// The source calls a native of the host.
     Native,
 }
 
-// By hand, so that a proof meets one call where it is dropped, and not each of its variants.
+// Written by hand, so that a proof meets one call when it is dropped, not each of its variants.
 impl Drop for Act {
     fn drop(self) {
         match self {
@@ -39,17 +40,17 @@ impl Drop for Act {
     }
 }
 
-/// What a source does about each of its pending activations at certain events.
+/// What a source does about each of its pending activations when certain events happen.
 pub struct Reaction {
     /// The class of the units of the events.
     pub class: ClassId,
-    /// Which events cause the reaction.
+    /// The events that cause the reaction.
     pub clauses: Clauses,
-    /// What the source asks about each activation.
+    /// The code that is asked about each activation.
     pub code: Question,
 }
 
-// By hand, so that a proof meets one call where it is dropped, and not each of its parts.
+// Written by hand, so that a proof meets one call when it is dropped, not each of its parts.
 impl Drop for Reaction {
     fn drop(self) {
         let Reaction {
@@ -60,28 +61,28 @@ impl Drop for Reaction {
     }
 }
 
-/// What a source is made of.
+/// The parts of a source.
 pub struct SourceParts {
     pub name: Text,
     /// The class of the units that it works on.
     pub class: ClassId,
-    /// The base rating of its activations, where `require` gives none.
+    /// The base rating of its activations, unless `require` gives one.
     pub rate: i64,
-    /// Which events trigger it.
+    /// The events that trigger it.
     pub triggers: Clauses,
-    /// Whether a trigger makes an activation, and with which base rating.
+    /// Decides whether a triggering event makes an activation, and its base rating.
     pub require: Option<Question>,
-    /// Which events make its pending activations needless.
+    /// The events that may obviate its pending activations.
     pub obviate: Option<Reaction>,
-    /// Which events give its pending activations another base rating.
+    /// The events that may give its pending activations another base rating.
     pub retrigger: Option<Reaction>,
-    /// Whether a chosen activation is still of use.
+    /// Decides whether a chosen activation may still act.
     pub revalidate: Option<Question>,
     /// What its activations do.
     pub act: Act,
 }
 
-// By hand, so that a proof meets one call where it is dropped, and not each of its parts.
+// Written by hand, so that a proof meets one call when it is dropped, not each of its parts.
 impl Drop for SourceParts {
     fn drop(self) {
         let SourceParts {
@@ -99,7 +100,7 @@ impl Drop for SourceParts {
 }
 
 impl SourceParts {
-    /// The name, which is kept where the rest is dropped.
+    /// Returns the name and drops the rest.
     pub fn into_name(self) -> Text
         ensures { result ≡ self.name }
     {
@@ -118,8 +119,8 @@ impl SourceParts {
     }
 }
 
-/// A source whose names are looked up and whose codes are accepted (GBBopen Reference Manual, knowledge sources).
-/// Contracts see it as its parts. They are those of one draft: nobody else puts parts together.
+/// A source whose names are looked up and whose codes are accepted: GBBopen's knowledge source. Contracts see it as its
+/// parts. All parts come from one draft: only `Source::new` puts parts together.
 #[derive(Drop)]
 pub struct Source {
     parts: SourceParts,
@@ -137,10 +138,10 @@ impl Model for Source {
 }
 
 impl Source {
-    /// A source from its draft. The fault is the first of these: `Class` where its class, or that of a reaction, is
-    /// unknown; `Part` where a code was accepted for another part or other classes; and, clause by clause, `Class`
-    /// where the class is unknown or does not descend from that of the source, or of the reaction, `Slot`, `Space`. The
-    /// fault has its place: which of the three classes, or which clause of which list.
+    /// Makes a source of its draft. The fault is the first of these: `Class` if its class, or that of a reaction, is
+    /// unknown; `Part` if a code was accepted for another part or other classes; and, clause by clause, `Class` if the
+    /// class is unknown or does not descend from that of the source, or of the reaction, `Slot`, `Space`. The fault has
+    /// its place: which of the three classes, or which clause of which list.
     pub fn new(
         alloc: Global,
         schema: &Schema,
@@ -156,21 +157,22 @@ impl Source {
         })
     }
 
-    /// What the source is made of.
+    /// Returns the parts of the source.
     pub fn parts(&self) -> &SourceParts
         ensures { result.now ≡ self.now }
     {
         &self.parts
     }
 
-    /// What the source is made of, taken out of it.
+    /// Returns the parts of the source without copying them.
     pub fn into_parts(self) -> SourceParts
         ensures { result ≡ self }
     {
         self.parts
     }
 
-    /// What holds of every source: each code was accepted under some schema, and those that it asks may not write.
+    /// Exposes the invariant: each code was accepted under some schema, and codes that the source asks may not write.
+    /// Does nothing.
     pub fn fits(&self)
         ensures { HasSoundCodes self.now }
     {
@@ -186,7 +188,7 @@ fn question_fits(question: &Option<Question>)
     ensures { (c : Accepted) → question.now ≡ Some c → IsQuestion c }
 {
     if let Some(question) = question {
-        // For the proof: what holds of the question.
+        // For the proof: the question's invariant.
         question.fits();
     }
 }
@@ -195,7 +197,7 @@ fn reaction_fits(reaction: &Option<Reaction>)
     ensures { (r : Reaction) → reaction.now ≡ Some r → IsQuestion r.code }
 {
     if let Some(reaction) = reaction {
-        // For the proof: what holds of the code.
+        // For the proof: the code's invariant.
         reaction.code.fits();
     }
 }
@@ -204,12 +206,12 @@ fn act_fits(act: &Act)
     ensures { (c : Accepted) → act.now ≡ Act.Code c → IsSound c }
 {
     if let Act::Code(code) = act {
-        // For the proof: what holds of the code.
+        // For the proof: the code's invariant.
         code.fits();
     }
 }
 
-// What the source of a draft is made of, once its names are looked up.
+// Puts together the parts of a source from its draft and what the draft's names stand for.
 fn source_with(found: Found, draft: SourceDraft<Checked>) -> SourceParts
     requires { parts_fit found.classes draft ≡ Ok tt }
     ensures { result ≡ source_with found draft }

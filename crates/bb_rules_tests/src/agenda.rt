@@ -1,5 +1,5 @@
-//! Tests of the agenda with memory: each call that can need it, what becomes of each activation, and an agenda against
-//! plain lists.
+//! Tests of the agenda with enough memory: every call that can need it, what becomes of each activation, and an agenda
+//! compared with plain lists.
 
 use bb_agenda::{Activation, Agenda, Focus, RatedSource, Status};
 use bb_basis::Text;

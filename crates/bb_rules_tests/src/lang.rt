@@ -1,4 +1,4 @@
-//! Tests of the source language: a text with its tree, and for each fault its first and last places.
+//! Tests of the source language: a text with its tree, and for every fault its first and last locations.
 
 use bb_lang::{
     ActText, Action, Atom, ChangeText, ClauseText, Division, Expr, ExprNode, LangFault, Operator,

@@ -1,5 +1,5 @@
-//! Tests of the crates that read and compile sources, and of rules and agenda: calls with memory, and answers that no
-//! case shows. They stand here so that the gate proves those crates once.
+//! Tests of the crates that read and compile sources, and of rules and the agenda: calls with enough memory, and
+//! results that no case shows. They are in one crate so that the gate proves those crates only once.
 #![tactic(auto)]
 
 #[cfg(test)]

@@ -1,5 +1,5 @@
-//! Tests of sources: how they are made with memory, codes that were accepted for something else, and events that no
-//! bundle's clause names.
+//! Tests of sources: how they are made with enough memory, codes that were accepted for something else, and events that
+//! no bundle's clause names.
 
 use bb_board::{Change, ChangeKind, Event};
 use bb_bundle::{ActDraft, Parts, SourceDraft, unbundle};

@@ -1,4 +1,4 @@
-//! Tests of the faults of a text: their numbers.
+//! Tests of the numbers of a text's faults.
 
 use bb_lang::{LangFault, Place};
 

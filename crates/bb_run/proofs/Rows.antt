@@ -3,10 +3,10 @@ use Rattle.std.proofs.Common.{◌≡◌, ℕ, [], ◌∷◌, Option, None, Some,
 use Rattle.std.specs.Prelude.{pos, ℤ, List}
 use Rattle.bb_schema.specs.Schema.{Schema}
 use Rattle.bb_schema_classes.specs.Inheritance.{climbs}
-use Rattle.bb_schema_slots.specs.declared.slot.Content.TheVariants.{Default}
+use Rattle.bb_schema.specs.declared.slot.Content.TheVariants.{Default}
 use Rattle.bb_schema_classes.specs.declared.value.Value.TheVariants.{Int, Text, Bool}
-use Rattle.bb_code.specs.Op.{Op}
-use Rattle.bb_code.specs.Op.TheVariants.{PushText, PushBool, PushInt, Say, Done, Decline, Rate, Answer}
+use Rattle.bb_code.specs.declared.op.Op.{Op}
+use Rattle.bb_code.specs.declared.op.Op.TheVariants.{PushText, PushBool, PushInt, Say, Done, Decline, Rate, Answer}
 use Rattle.bb_trace.specs.Change.TheVariants.{Create}
 use Rattle.bb_trace.specs.ChangeKind.TheVariants as kinds
 use Rattle.bb_trace.specs.Event.TheVariants.{Change as happens}
@@ -14,16 +14,16 @@ use Rattle.bb_trace.specs.BoardNote.TheVariants as noted
 use Rattle.bb_trace.specs.Said.TheVariants as saids
 use Rattle.bb_trace.specs.Board.{Board as Blackboard, new_board, with_world}
 use Rattle.bb_trace.specs.World.{after_create}
-use Rattle.bb_agenda.specs.Activation.{Activation}
+use Rattle.bb_agenda.specs.declared.focusing.activation.Activation.{Activation}
 use Rattle.bb_basis.specs.Results.{try_map}
-use Rattle.bb_machine.specs.Machine.{pop, pop_many, push, room}
-use Rattle.bb_machine.specs.Reading.{push_text}
-use Rattle.bb_machine.specs.Changing.{say}
-use Rattle.bb_machine.specs.Jumping.{answer, rate}
-use Rattle.bb_machine.specs.Step.{step}
-use Rattle.bb_machine.specs.Activation.{steps_from}
-use Rattle.bb_code.specs.CodeParts.{CodeParts}
-use Rattle.bb_code.specs.Version.TheVariants.{One}
+use Rattle.bb_theorem_machine.specs.Machine.{pop, pop_many, push, room}
+use Rattle.bb_theorem_machine.specs.Reading.{push_text}
+use Rattle.bb_theorem_machine.specs.Changing.{say}
+use Rattle.bb_theorem_machine.specs.Jumping.{answer, rate}
+use Rattle.bb_theorem_machine.specs.Step.{step}
+use Rattle.bb_theorem_machine.specs.Activation.{steps_from}
+use Rattle.bb_code.specs.declared.parts.CodeParts.{CodeParts}
+use Rattle.bb_code.specs.declared.version.Version.TheVariants.{One}
 use Rattle.bb_verify.specs.PartType.{Part}
 use Rattle.bb_verify.specs.PartType.TheVariants.{Do, Require, Obviate, Retrigger, Revalidate}
 use Rattle.bb_verify.specs.Accepted.{Checked}

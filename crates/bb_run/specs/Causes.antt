@@ -1,14 +1,14 @@
 -- Why a run ends full or stuck, or with a native due.
 use Rattle.std.specs.Prelude.{◌≡◌, ◌⊎◌, ◌≤◌, ◌-◌, ◌^◌, ℕ, ⊤, true, Contains, List, length, Option, Some, None, Err, option_map}
 use Rattle.std.specs.Prelude.{slice_get}
-use Rattle.bb_agenda.specs.Activation.{Activation}
+use Rattle.bb_agenda.specs.declared.focusing.activation.Activation.{Activation}
 use Rattle.bb_agenda.specs.Agenda.{Agenda, pending_of}
 use Rattle.bb_verify.specs.Accepted.{Checked}
-use Rattle.bb_machine.specs.Entry.{Entry}
-use Rattle.bb_machine.specs.Stop.{Stop}
-use Rattle.bb_machine.specs.Stop.TheVariants as stops
-use Rattle.bb_machine.specs.Stuck.{Stuck}
-use Rattle.bb_machine.specs.Units.{is_full as no_unit_left}
+use Rattle.bb_theorem_machine.specs.Entry.{Entry}
+use Rattle.bb_theorem_machine.specs.Stop.{Stop}
+use Rattle.bb_theorem_machine.specs.Stop.TheVariants as stops
+use Rattle.bb_theorem_machine.specs.Stuck.{Stuck}
+use Rattle.bb_theorem_machine.specs.Units.{is_full as no_unit_left}
 use Rattle.bb_trace.specs.Act.TheVariants as acts
 use Rattle.bb_trace.specs.Applied.{applied}
 use Rattle.bb_trace.specs.Ask.{Ask}
@@ -40,7 +40,7 @@ IsAsked source code =
 abbrev pub IsPart : Source → Checked → Type 0
 IsPart source code = (source.act ≡ acts.Code code) ⊎ IsAsked source code
 
--- an execution of a code of a source stopped like this, and left this blackboard
+-- an execution of a code of a source stopped in this way, and left this blackboard
 pub record WasStopped (plan : Plan) (board : Blackboard) (stop : Stop) : Type 0 where
   pub source : Source
   pub one : Contains plan.sources source
@@ -49,11 +49,11 @@ pub record WasStopped (plan : Plan) (board : Blackboard) (stop : Stop) : Type 0 
   pub entry : Entry
   pub before : Blackboard
   pub came : (attempt code.code entry before).0 ≡ Err stop
-  -- where the code is an act, what it noted is taken
+  -- if the code is an act, its notes are taken
   pub left : let after = (attempt code.code entry before).1 in
       (board ≡ after) ⊎ (board ≡ with_world after (after_take after.world))
 
--- an ask that a native made for a source asks for a unit, and no unit can be created
+-- a native asked, for a source, for a unit, and no unit can be created
 pub record WasDenied (plan : Plan) (s : State) : Type 0 where
   pub source : Source
   pub one : Contains plan.sources source
@@ -81,26 +81,26 @@ LacksNativeFor plan natives a =
     (source : Source) × (slice_get plan.sources a.source ≡ Some source) × (source.act ≡ acts.Native)
     × (place_of natives source.name ≡ None)
 
--- as many activations are pending as may be, or the last number was given
+-- the maximum number of activations are pending, or the last number was given
 abbrev pub IsFull : Agenda → Type 0
 IsFull agenda = (65536 ≤ length (pending_of agenda)) ⊎ (2 ^ 63 - 1 ≤ length agenda.given)
 
 -- why a run ends in this state
 pub data Cause (plan : Plan) (s : State) : End → Type 0 where
-  -- the run is full: its agenda is
+  -- the run is full: its agenda is full
   of_agenda : IsFull s.agenda → Cause plan s ends.Full
   -- the run is full: no unit can be created, and its last execution was stopped for that
   of_units : (steps found : ℕ) → WasStopped plan s.board (stops.Full steps found)
       → no_unit_left s.board.world.units ≡ true → Cause plan s ends.Full
   -- the run is full: no unit can be created, and a native asked for one
   of_ask : WasDenied plan s → no_unit_left s.board.world.units ≡ true → Cause plan s ends.Full
-  -- the run is stuck: its last execution was
+  -- the run is stuck: its last execution was stuck
   of_execution : (reason : Stuck) (steps found : ℕ) → WasStopped plan s.board (stops.Stuck reason steps found)
       → Cause plan s (ends.Stuck reason)
-  -- a native is due: there is none to call
+  -- a native is due: none of its name was handed in
   of_native : (a : Activation) → LacksNativeFor plan s.natives a → Cause plan s (ends.Due a)
 
--- a run that ends full or stuck, or with a native due, has a cause for it
+-- a run that ends full or stuck, or with a native due, has a cause
 abbrev pub HasCause : Plan → State → Option End → Type 0
 HasCause plan s (Some ends.Full) = Cause plan s ends.Full
 HasCause plan s (Some (ends.Due a)) = Cause plan s (ends.Due a)

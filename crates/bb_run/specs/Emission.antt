@@ -10,11 +10,11 @@ pub record Emission (X : Type 0) : Type 0 where
   pub state : State
   pub end : Option End
 
--- a response to an event, or to a choice: it emits notes
+-- a response to an event or a choice: it emits notes
 abbrev pub Response : Type 0
 Response = Emission Note
 
--- a stretch of a run: it emits segments, each of which is a list of notes, and is written whole
+-- a stretch of a run: it emits segments, each a list of notes, and each is written whole
 abbrev pub Stretch : Type 0
 Stretch = Emission (List Note)
 
@@ -22,7 +22,7 @@ Stretch = Emission (List Note)
 abbrev pub emitting : {X : Type 0} → List X → State → Option End → Emission X
 emitting emitted s end = record { emitted = emitted; state = s; end = end }
 
--- nothing is emitted, and the run goes on
+-- nothing is emitted, and the run continues
 abbrev pub idle : {X : Type 0} → State → Emission X
 idle s = emitting [] s None
 
@@ -30,16 +30,16 @@ idle s = emitting [] s None
 abbrev pub over : {X : Type 0} → End → State → Emission X
 over end s = emitting [] s (Some end)
 
--- a part with what was emitted before put in front
+-- a part, preceded by what was emitted before
 abbrev pub after_emitted : {X : Type 0} → List X → Emission X → Emission X
 after_emitted emitted p = emitting (emitted ++ p.emitted) p.state p.end
 
--- a part with this end, and after it the next, unless the run is over
+-- a part with this end, followed by the next unless the run is over
 abbrev pub and_then_unless : {X : Type 0} → Option End → Emission X → (State → Emission X) → Emission X
 and_then_unless (Some end) p next = p
 and_then_unless None p next = after_emitted p.emitted (next p.state)
 
--- a part and then the next, unless the run ends in the first
+-- a part, followed by the next unless the run ends in the first
 abbrev pub and_then : {X : Type 0} → Emission X → (State → Emission X) → Emission X
 and_then p next = and_then_unless p.end p next
 

@@ -1,6 +1,6 @@
--- What comes after a choice.
+-- What follows a choice.
 use Rattle.std.specs.Prelude.{◌≡◌, List, [], ◌∷◌, ◌++◌, slice_get, Option, Some, None}
-use Rattle.bb_agenda.specs.Activation.{Activation}
+use Rattle.bb_agenda.specs.declared.focusing.activation.Activation.{Activation}
 use Rattle.bb_agenda.specs.Changes.{with_executed}
 use Rattle.bb_trace.specs.Source.{Source}
 use Rattle.bb_trace.specs.End.{End}
@@ -30,11 +30,11 @@ abbrev pub finish_by : Option End → List Native → List Note
 finish_by None natives = []
 finish_by (Some end) natives = finish end natives
 
--- an activation was chosen in this state, and these notes come after the choice
+-- an activation was chosen in this state, and these notes follow the choice
 pub record IsFollowed (plan : Plan) (s : State) (a : Activation) (after : List Note) : Type 0 where
-  -- the source of the activation is there
+  -- the source of the activation exists
   pub source : Source
   pub source_is : slice_get plan.sources a.source ≡ Some source
-  -- what is emitted upon the choice comes first, and the finish where the run ends there
+  -- what is emitted upon the choice comes first, and then the finish if the run ends there
   pub rest : List Note
   pub begins : let emitted = upon_choice source a s in after ≡ (emitted.emitted ++ finish_by emitted.end emitted.state.natives) ++ rest

@@ -1,4 +1,4 @@
--- The end of a run, by what `run` returns.
+-- The end of a run, by the value that `run` returns.
 use Rattle.std.specs.Prelude.{ℕ, Bool, true, false, List, take, Option, Some, None, ⊤}
 use Rattle.std.specs.Io.KnownBytes.{Appends}
 use Rattle.bb_trace.specs.End.{End}
@@ -9,7 +9,7 @@ use Rattle.bb_run_plan.specs.Plan.{Plan}
 use Rattle.bb_run.specs.Emission.{Stretch}
 use Rattle.bb_trace.specs.TraceText.{trace_text}
 
--- the end that the machine's run has, if the run was not cut short
+-- the end of the machine's run, if the run was not cut short
 abbrev pub end_of : Finish → Option End
 end_of finishes.Quiescence = Some ends.Quiescence
 end_of finishes.Limit = Some ends.Limit
@@ -25,7 +25,7 @@ is_write finishes.Full = false
 is_write finishes.Memory = false
 is_write finishes.Write = true
 
--- what was written of a run that was cut short: the first segments, or, where the output failed, the front of the text
+-- what was written of a run that was cut short: the first segments, or, if the output failed, a prefix of the text
 abbrev pub WritesFront : Plan → Stretch → Finish → (old new : Option (List ℕ)) → Type 0
 WritesFront plan run finishes.Quiescence old new = ⊤
 WritesFront plan run finishes.Limit old new = ⊤

@@ -1,30 +1,30 @@
 -- the state of a run with one part of it changed
 pub mod State
--- what a part of a run emits, the state that it leaves, and the end
+-- what a part of a run emits, the state that it leaves, and its end
 pub mod Emission
 -- what a code of a source answers
 pub mod Asking
--- what an event brings about
+-- the response to an event
 pub mod Processing
 -- the run
 pub mod Run
 -- a turn of a run, and asks from outside
 pub mod Turns
--- what notes tell, how each choice is made, and how each run ends
+-- what notes report, how each choice is made, and how each run ends
 pub mod Order
 -- the phases of a run
 pub mod Phases
--- what comes after a choice
+-- what follows a choice
 pub mod Executed
 -- why a run ends full or stuck, or with a native due
 pub mod Causes
 -- why no run is stuck
 pub mod Unstuck
--- what leaves the blackboard as it was
+-- what leaves the blackboard unchanged
 pub mod Reads
 -- what the sources emit in response to events
 pub mod Responses
--- how a run goes on
+-- how a run continues
 pub mod Responds
 -- what the act of a source emits and leaves
 pub mod Acts
@@ -32,11 +32,11 @@ pub mod Acts
 pub mod Weighed
 -- the state that a run leaves
 pub mod Left
--- the end of a run by what `run` returns, and what was written where it was cut short
+-- the end of a run by what `run` returns, and what was written if it was cut short
 pub mod Finish
--- what a part of the run's code emits, against the definitions
+-- what a part of the run's code emits, compared with the definitions
 pub mod Emitting
--- what the definitions see of the state of the code
+-- how the definitions see the state of the code
 pub mod Seen
 -- what the code needs so that each code is executed for units that fit its part
 pub mod Serving
@@ -44,7 +44,7 @@ pub mod Serving
 pub mod Knowing
 -- for proofs only
 pub mod proving
--- of bb_trace: what a run goes by, what it emits, and the text of that
+-- of bb_trace: the plan of a run, what the run emits, and the text of that
 pub use Rattle.bb_trace.specs.TraceText
 pub use Rattle.bb_trace.specs.End
 pub use Rattle.bb_trace.specs.Page
@@ -52,13 +52,13 @@ pub use Rattle.bb_trace.specs.declared.halt.Halt
 pub use Rattle.bb_trace.specs.declared.note.Note
 pub use Rattle.bb_run_plan.specs.Plan
 pub use Rattle.bb_run_plan.specs.declared.plan.TheConstants as Limits
--- of bb_agenda: what is pending
-pub use Rattle.bb_agenda.specs.Activation
--- of bb_board: the blackboard that a run begins with, and the document of its first units
+-- of bb_agenda: pending activations
+pub use Rattle.bb_agenda.specs.declared.focusing.activation.Activation
+-- of bb_board: the blackboard that a run begins with, and the document of its initial units
 pub use Rattle.bb_trace.specs.Board
 pub use Rattle.bb_trace.specs.Load
 pub use Rattle.bb_trace.specs.UnitsFaults
--- of bb_native: natives, what they see and ask, and what becomes of that
+-- of bb_native: natives, what they see and ask, and how asks are applied
 pub use Rattle.bb_trace.specs.Native
 pub use Rattle.bb_trace.specs.Roster
 pub use Rattle.bb_trace.specs.Sight

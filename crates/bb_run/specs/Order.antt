@@ -1,8 +1,8 @@
--- What every run is like. Most of it is read off the notes alone.
+-- What every run is like. Most of it depends only on the notes.
 use Rattle.std.specs.Prelude.{◌≡◌, ◌⊎◌, ℕ, ◌+◌, ◌≤◌, ℤ, Bool, false, ◌==◌, Some, None}
 use Rattle.std.specs.Prelude.{List, [], ◌∷◌, ◌++◌, length, map, filter}
 use Rattle.std.specs.List.{AllZip, flat_map, fold, list_any}
-use Rattle.bb_agenda.specs.Activation.{Activation}
+use Rattle.bb_agenda.specs.declared.focusing.activation.Activation.{Activation}
 use Rattle.bb_agenda.specs.Agenda.{pending_of}
 use Rattle.bb_agenda.specs.Changes.{other_than, rebased}
 use Rattle.bb_agenda.specs.Chosen.{IsChosen}
@@ -18,7 +18,7 @@ use Rattle.bb_run.specs.Causes.{HasCause}
 use Rattle.bb_run.specs.Emission.{Stretch}
 use Rattle.bb_run.specs.Run.{choice, finish, rating}
 
--- ---- what notes say
+-- ---- what notes report
 
 -- all notes of segments, in order
 abbrev pub all_of : List (List Note) → List Note
@@ -28,56 +28,56 @@ all_of segments = flat_map (λ segment. segment) segments
 abbrev pub notes_of : Stretch → List Note
 notes_of p = all_of p.emitted
 
--- the note is one of these notes, and these come before it
+-- the note is one of these notes, and comes after the notes `before`
 abbrev pub At : (notes before : List Note) → Note → Type 0
 At notes before note = (after : List Note) × (notes ≡ before ++ note ∷ after)
 
--- the activation that is new by a note, if one is
+-- the activation that a note reports as new, if any
 abbrev pub triggered_by : Note → List Activation
 triggered_by (Triggered a) = a ∷ []
 triggered_by _ = []
 
--- the activation that is chosen by a note, if one is
+-- the activation that a note reports as chosen, if any
 abbrev pub chosen_by : Note → List Activation
 chosen_by (Chosen cycle a r) = a ∷ []
 chosen_by _ = []
 
--- the number of an activation that is no longer pending after a note
+-- the number of the activation that a note removes from the pending ones, if any
 abbrev pub gone_by : Note → List ℕ
 gone_by (Chosen cycle a r) = a.number ∷ []
 gone_by (Obviated number) = number ∷ []
 gone_by _ = []
 
--- what a native said at its close, by a note
+-- the closing of a native that a note reports, if any
 abbrev pub closed_by : Note → List Closing
 closed_by (Closed closing) = closing ∷ []
 closed_by _ = []
 
--- all activations that are new by notes
+-- all activations that notes report as new
 abbrev pub triggered_in : List Note → List Activation
 triggered_in notes = flat_map triggered_by notes
 
--- all activations that are chosen by notes
+-- all activations that notes report as chosen
 abbrev pub chosen_in : List Note → List Activation
 chosen_in notes = flat_map chosen_by notes
 
--- the numbers of all activations that are no longer pending
+-- the numbers of all activations that notes remove from the pending ones
 abbrev pub gone_in : List Note → List ℕ
 gone_in notes = flat_map gone_by notes
 
--- all that natives said at their close, by notes
+-- all closings of natives that notes report
 abbrev pub closed_in : List Note → List Closing
 closed_in notes = flat_map closed_by notes
 
--- the number is among these
+-- the number is one of these
 abbrev pub is_among : ℕ → List ℕ → Bool
 is_among number numbers = list_any (λ n. number == n) numbers
 
--- activations without the one of a number
+-- activations without the one with a number
 abbrev pub without : ℕ → List Activation → List Activation
 without number activations = filter (other_than number) activations
 
--- what is pending after a note, where these were pending before it
+-- what is pending after a note, given what was pending before it
 abbrev pub after_note : List Activation → Note → List Activation
 after_note pending (Triggered a) = pending ++ a ∷ []
 after_note pending (Obviated number) = without number pending
@@ -100,48 +100,48 @@ pub record IsChosenAfter (plan : Plan) (run : Stretch) (before : List Note) (cyc
   pub once : is_among a.number (gone_in before) ≡ false
   -- that run emits these notes, and then ends by its limit
   pub emitted : notes_of run ≡ before ++ finish ends.Limit run.state.natives
-  -- what is pending in its last state is what is pending by the notes
+  -- what is pending in the run's last state is what is pending by the notes
   pub agenda : pending_of run.state.agenda ≡ pending_after before
   -- the activation is the choice in that state
   pub choice_is : choice plan run.state ≡ Some a
-  -- it is rated at least the floor there, nothing that is pending is rated higher, and of equals it is the earliest
+  -- it is rated at least the floor there, no pending activation is rated higher, and of equals it is the earliest
   pub best : IsChosen (rating plan run.state) plan.floor (pending_of run.state.agenda) a
-  -- the line prints the rating that it has there
+  -- the line prints its rating there
   pub rated : r ≡ rating plan run.state a
 
 -- ---- how every run ends
 
--- two natives are the same but for what they hold
+-- two natives are the same except for what they hold
 abbrev pub IsLike : Native → Native → Type 0
 IsLike native left = (held : List ℤ) × (left ≡ record native { held = held })
 
--- a run of these natives and this limit ends once, for a cause, and closes each native
+-- a run of these natives and this limit ends once, for a cause, and closes every native
 pub record EndsOnce (plan : Plan) (natives : List Native) (limit : ℕ) (run : Stretch) : Type 0 where
   -- the run ends in this way
   pub end : End
   pub end_is : run.end ≡ Some end
-  -- where it is full or stuck, or a native is due, it has a cause for that
+  -- if it is full or stuck, or a native is due, it has a cause
   pub cause : HasCause plan run.state run.end
-  -- its last notes are its end, and what each native says at its close, in order
+  -- its last notes are its end, and what every native reports at its close, in order
   pub last : (before : List Note) × (notes_of run ≡ before ++ finish end run.state.natives)
-  -- nothing but that comes after a finish
+  -- only that comes after a finish
   pub once : (before : List Note) (e : End) (after : List Note) → notes_of run ≡ before ++ Finished e ∷ after
       → after ≡ map Closed (closings_of run.state.natives)
   -- nothing else is closed
   pub closings : closed_in (notes_of run) ≡ closings_of run.state.natives
-  -- the natives are those that were handed in, but for what they hold
+  -- the natives are those handed in, except for what they hold
   pub natives_left : AllZip IsLike natives run.state.natives
   -- the run makes no more cycles than the limit
   pub within : length (chosen_in (notes_of run)) ≤ limit
-  -- where it ends by its limit it made as many, and something can still be chosen
+  -- if it ends by its limit, it made that many cycles, and something can still be chosen
   pub met : run.end ≡ Some ends.Limit → length (chosen_in (notes_of run)) ≡ limit
   pub left : run.end ≡ Some ends.Limit → (a : Activation) × (choice plan run.state ≡ Some a)
-  -- where it ends in quiescence nothing can be chosen
+  -- if it ends in quiescence, nothing can be chosen
   pub exhausted : run.end ≡ Some ends.Quiescence → choice plan run.state ≡ None
 
 -- ---- how runs of two limits compare
 
--- a run and one with a longer limit: they are the same, or the first ends by its limit, and the longer one emits the
+-- a run and one with a longer limit: they are the same, or the first ends by its limit and the longer one emits the
 -- same up to that finish
 abbrev pub Extends : Stretch → Stretch → Type 0
 Extends run longer =

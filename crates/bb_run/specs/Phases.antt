@@ -1,7 +1,7 @@
--- The phases of a run, read off its notes: where a note of the blackboard may stand, and when quiescence comes.
+-- The phases of a run, by its notes: where a note of the blackboard may occur, and when quiescence comes.
 use Rattle.std.specs.Prelude.{◌≡◌, ◌⊎◌, ℕ, ◌+◌, ℤ, None, List, ◌∷◌, ◌++◌, length, map}
 use Rattle.std.specs.List.{fold}
-use Rattle.bb_agenda.specs.Activation.{Activation}
+use Rattle.bb_agenda.specs.declared.focusing.activation.Activation.{Activation}
 use Rattle.bb_agenda.specs.Agenda.{next_number, pending_of}
 use Rattle.bb_trace.specs.Event.TheVariants.{Quiescence as quiescence}
 use Rattle.bb_trace.specs.Board.{Board as Blackboard}
@@ -19,13 +19,13 @@ use Rattle.bb_run.specs.Emission.{Stretch, after_emitted}
 use Rattle.bb_run.specs.Run.{choice, cycles, unfinished}
 use Rattle.bb_run.specs.Order.{At, all_of, chosen_in, pending_after, triggered_in}
 
--- where a run is
+-- the phase of a run
 pub data Phase : Type 0 where
   -- no cycle is open
   outside : Phase
   -- no cycle is open, and quiescence has come since the last one
   rested : Phase
-  -- a cycle was begun, and is not over
+  -- a cycle has begun and is not over
   inside : Phase
 
 -- the phase after a note of the blackboard
@@ -48,40 +48,40 @@ after_in phase _ = phase
 abbrev pub phase_after : List Note → Phase
 phase_after notes = fold after_in outside notes
 
--- each run whose limit is `made` or more emits these segments first, and goes on from this state
+-- every run whose limit is `made` or more emits these segments first and continues from this state
 abbrev pub Reaches : Plan → Blackboard → List Native → (emitted : List (List Note)) → (made : ℕ) → State → Type 0
 Reaches plan board natives emitted made s =
     (left : ℕ) → unfinished plan board natives (made + left) ≡ after_emitted emitted (cycles plan made left s)
 
--- the note is quiescence, and comes where it may
+-- the note is quiescence, and may come here
 pub record IsQuiet (plan : Plan) (board : Blackboard) (natives : List Native) (before : List Note) (note : BoardNote)
     : Type 0 where
   pub is : note ≡ happened quiescence
   -- no cycle is open, and quiescence has not come since the last
   pub phase : phase_after before ≡ outside
-  -- after what had been noted and these notes, with as many cycles as they emit, a run is in this state
+  -- after what had been noted and these notes, with the cycles that they report, a run is in this state
   pub emitted : List (List Note)
   pub notes : all_of emitted ≡ map Board board.world.notes ++ before
   pub state : State
   pub there : Reaches plan board natives emitted (length (chosen_in before)) state
-  -- what is pending in it is what is pending by the notes, and none of that can be chosen
+  -- what is pending in it is what is pending by the notes, and no pending activation can be chosen
   pub pending : pending_of state.agenda ≡ pending_after before
-  -- the next activation has the number after those that the notes tell
+  -- the number of the next activation follows those that the notes report
   pub next : next_number state.agenda ≡ length (triggered_in before) + 1
   pub nothing : choice plan state ≡ None
 
--- what the blackboard had noted is emitted first; after that the run goes by its phases
+-- what the blackboard had noted is emitted first; after that the run follows its phases
 pub record GoesByPhases (plan : Plan) (board : Blackboard) (natives : List Native) (run : Stretch) : Type 0 where
   pub rest : List (List Note)
   -- the first segment is what had been noted
   pub begins : run.emitted ≡ map Board board.world.notes ∷ rest
-  -- activations have the numbers from 1 on, in order
+  -- activations are numbered from 1, in order
   pub numbers : (before : List Note) (a : Activation) → At (all_of rest) before (Triggered a)
       → a.number ≡ length (triggered_in before) + 1
-  -- after the first segment a note of the blackboard comes in a cycle, or is quiescence where it may come
+  -- after the first segment, a note of the blackboard comes in a cycle, or is quiescence that may come there
   pub notes : (before : List Note) (note : BoardNote) → At (all_of rest) before (Board note)
       → (phase_after before ≡ inside) ⊎ IsQuiet plan board natives before note
-  -- a cycle begins where none is open
+  -- a cycle begins only if none is open
   pub choices : (before : List Note) (cycle : ℕ) (a : Activation) (r : ℤ) → At (all_of rest) before (Chosen cycle a r)
       → (phase_after before ≡ outside) ⊎ (phase_after before ≡ rested)
   -- a cycle that ends was open
@@ -94,6 +94,6 @@ pub record GoesByPhases (plan : Plan) (board : Blackboard) (natives : List Nativ
   -- an ask is refused only in a cycle
   pub refusals : (before : List Note) (ask : ℕ) (refusal : Refusal) → At (all_of rest) before (Refused ask refusal)
       → phase_after before ≡ inside
-  -- a run finishes by quiescence only where quiescence came, and nothing was chosen after it
+  -- a run finishes by quiescence only if quiescence came and nothing was chosen after it
   pub finish : (before : List Note) → At (all_of rest) before (Finished finishes.Quiescence)
       → phase_after before ≡ rested

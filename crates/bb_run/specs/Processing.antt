@@ -1,4 +1,4 @@
--- What an event brings about (GBBopen Agenda Shell): each source in order obviates and retriggers its pending
+-- The response to an event (GBBopen Agenda Shell): each source in order obviates and retriggers its pending
 -- activations, and is triggered.
 use Rattle.std.specs.Prelude.{ℕ, ◌+◌, ℤ, List, [], ◌∷◌, Option, Some, None, if◌then◌else◌}
 use Rattle.std.specs.List.{flat_map}
@@ -6,11 +6,11 @@ use Rattle.bb_schema.specs.Schema.{Schema}
 use Rattle.bb_trace.specs.Event.{Event}
 use Rattle.bb_trace.specs.BoardNote.TheVariants.{Event as happened}
 use Rattle.bb_trace.specs.Events.{unit_of}
-use Rattle.bb_agenda.specs.Activation.{Activation}
+use Rattle.bb_agenda.specs.declared.focusing.activation.Activation.{Activation}
 use Rattle.bb_agenda.specs.Agenda.{is_full, pending_for}
 use Rattle.bb_agenda.specs.Changes.{new_activation, with_activation, with_base, with_obviated}
-use Rattle.bb_machine.specs.Answer.{Answer}
-use Rattle.bb_machine.specs.Answer.TheVariants.{Rated, Yes}
+use Rattle.bb_theorem_machine.specs.Answer.{Answer}
+use Rattle.bb_theorem_machine.specs.Answer.TheVariants.{Rated, Yes}
 use Rattle.bb_verify.specs.Accepted.{Checked}
 use Rattle.bb_trace.specs.Reaction.{Reaction}
 use Rattle.bb_trace.specs.Source.{Source}
@@ -40,14 +40,15 @@ rerated_by a _ s = idle s
 abbrev pub reacting_to : Event → (Activation → Answer → State → Response) → Reaction → Activation → State → Response
 reacting_to event by reaction a s = asking reaction.code.code (entry_of a.unit (Some (unit_of event))) (by a) s
 
--- the code of a reaction is asked about each of these pending activations, in order
+-- the code of a reaction is asked about every one of these pending activations, in order
 unfoldable pub reacting_to_each :
     Event → (Activation → Answer → State → Response) → Reaction → List Activation → State → Response
 reacting_to_each event by reaction [] s = idle s
 reacting_to_each event by reaction (a ∷ more) s =
     and_then (reacting_to event by reaction a s) (reacting_to_each event by reaction more)
 
--- a reaction, if there is one and its clauses name the event, to each pending activation of the source at a place
+-- a reaction to every pending activation of the source at a place, if there is a reaction and its clauses name the
+-- event
 abbrev pub reacting : Schema → Event → ℕ → (Activation → Answer → State → Response) → Option Reaction → State → Response
 reacting schema event place by None s = idle s
 reacting schema event place by (Some reaction) s =
@@ -56,14 +57,14 @@ reacting schema event place by (Some reaction) s =
 
 -- ---- what triggers a source
 
--- the source at a place gets an activation for an event, with this base; where the agenda is full the run is over
+-- the source at a place gets an activation for an event, with this base; if the agenda is full, the run is over
 abbrev pub activating : Event → ℕ → ℤ → State → Response
 activating event place base s =
     if is_full s.agenda then over Full s
     else emitting (notes.Triggered (new_activation s.agenda place (unit_of event) base) ∷ [])
     (with_agenda s (with_activation s.agenda place (unit_of event) base)) None
 
--- an answer that is a rating makes an activation with this base; by any other the source declines
+-- an answer that is a rating makes an activation with this base; with any other answer the source declines
 abbrev pub required_by : Event → ℕ → Answer → State → Response
 required_by event place (Rated base) s = activating event place base s
 required_by event place _ s = emitting (notes.Declined place (unit_of event) ∷ []) s None
@@ -74,7 +75,7 @@ triggering event place rate None s = activating event place rate s
 triggering event place rate (Some code) s =
     asking code.code (entry_of (unit_of event) None) (required_by event place) s
 
--- a source is triggered if one of its clauses or more names the event
+-- a source is triggered if at least one of its clauses names the event
 abbrev pub if_triggered : Schema → Event → ℕ → Source → State → Response
 if_triggered schema event place source s =
     if any_match schema source.triggers event then triggering event place source.rate source.require s else idle s
@@ -101,12 +102,12 @@ response plan event s = response_by plan.schema event 0 plan.sources s
 abbrev pub processing : Plan → Event → State → Stretch
 processing plan event s = segment (response plan event s)
 
--- the processing of events in order, a segment each
+-- the processing of events in order, one segment each
 unfoldable pub processing_all : Plan → List Event → State → Stretch
 processing_all plan [] s = idle s
 processing_all plan (event ∷ events) s = and_then (processing plan event s) (processing_all plan events)
 
--- the event of a note, if it is one of an event
+-- the event of a note, if it has one
 abbrev pub event_in : Note → List Event
 event_in (notes.Board (happened event)) = event ∷ []
 event_in _ = []

@@ -1,7 +1,7 @@
--- What is asked about events and activations changes nothing of the blackboard.
+-- What is asked about events and activations leaves the blackboard unchanged.
 use Rattle.std.specs.Prelude.{◌≡◌, true, All, Contains}
-use Rattle.bb_agenda.specs.Activation.{Activation}
-use Rattle.bb_machine.specs.Writes.{has_no_writes}
+use Rattle.bb_agenda.specs.declared.focusing.activation.Activation.{Activation}
+use Rattle.bb_theorem_machine.specs.Writes.{has_no_writes}
 use Rattle.bb_verify.specs.Accepted.{Checked}
 use Rattle.bb_trace.specs.Board.{Board as Blackboard}
 use Rattle.bb_trace.specs.Event.{Event}
@@ -13,17 +13,17 @@ use Rattle.bb_run.specs.Causes.{IsAsked}
 use Rattle.bb_run.specs.Processing.{response}
 use Rattle.bb_run.specs.Run.{validity}
 
--- no code that a source of the plan asks has an op that writes; this is so of a code that was accepted for its part
+-- no code that a source of the plan asks has an op that writes; this holds for codes accepted for their part
 abbrev pub AsksByReading : Plan → Type 0
 AsksByReading plan =
     (source : Source) (code : Checked) → Contains plan.sources source → IsAsked source code
     → has_no_writes code.code ≡ true
 
--- what is asked of sources only reads
+-- what sources are asked only reads
 pub record ReadsOnly (plan : Plan) : Type 0 where
-  -- no code that a source asks writes, where the codes of the sources are sound, as those of every plan are
+  -- no code that a source asks writes, if the codes of the sources are sound, as those of every plan are
   pub sound : All HasSoundCodes plan.sources → AsksByReading plan
-  -- then what answers to an event leaves the blackboard as it was, and so does what is asked about a choice
+  -- then responses to an event leave the blackboard unchanged, and so does what is asked about a choice
   pub events : (event : Event) (s : State) → AsksByReading plan → (response plan event s).state.board ≡ s.board
   pub choices : (source : Source) (a : Activation) (board : Blackboard) → AsksByReading plan
       → Contains plan.sources source → (validity source.revalidate a board).1 ≡ board

@@ -1,16 +1,15 @@
--- What the sources emit in response to events: read off what was emitted before, the clauses of the plan, and what
--- codes answer on a blackboard. Where a code comes to no answer `None` stands for what is not emitted, and the run is
--- over.
+-- What the sources emit in response to events, by what was emitted before, the clauses of the plan, and what codes
+-- answer on a blackboard. If a code comes to no answer, `None` marks what is not emitted, and the run is over.
 use Rattle.std.specs.Prelude.{ℕ, ◌+◌, ℤ, List, [], ◌∷◌, ◌++◌, length, filter, Option, Some, None, Result, Ok, Err}
 use Rattle.std.specs.Prelude.{if◌then◌else◌}
 use Rattle.std.specs.List.{filter_map, flat_map}
-use Rattle.bb_agenda.specs.Activation.{Activation}
+use Rattle.bb_agenda.specs.declared.focusing.activation.Activation.{Activation}
 use Rattle.bb_agenda.specs.Agenda.{is_of}
-use Rattle.bb_machine.specs.Answer.{Answer}
-use Rattle.bb_machine.specs.Answer.TheVariants.{Rated, Yes}
-use Rattle.bb_machine.specs.Entry.{Entry}
-use Rattle.bb_machine.specs.Outcome.{Outcome}
-use Rattle.bb_machine.specs.Stop.{Stop}
+use Rattle.bb_theorem_machine.specs.Answer.{Answer}
+use Rattle.bb_theorem_machine.specs.Answer.TheVariants.{Rated, Yes}
+use Rattle.bb_theorem_machine.specs.Entry.{Entry}
+use Rattle.bb_theorem_machine.specs.Outcome.{Outcome}
+use Rattle.bb_theorem_machine.specs.Stop.{Stop}
 use Rattle.bb_trace.specs.Board.{Board as Blackboard}
 use Rattle.bb_trace.specs.Event.{Event}
 use Rattle.bb_trace.specs.Events.{unit_of}
@@ -35,32 +34,32 @@ answer_in (Err stop) = None
 abbrev pub answer_of : Checked → Entry → Blackboard → Option Answer
 answer_of code entry board = answer_in (attempt code.code entry board).0
 
--- ---- what becomes of an activation that waits
+-- ---- a pending activation
 
--- what waits for the source at a place, after these notes
+-- what is pending for the source at a place, after these notes
 abbrev pub waiting_for : (past : List Note) → (place : ℕ) → List Activation
 waiting_for past place = filter (is_of place) (pending_after past)
 
--- it is obviated where the answer is yes
+-- it is obviated if the answer is yes
 abbrev pub if_yes : Activation → Option Answer → List (Option Note)
 if_yes a (Some Yes) = Some (Obviated a.number) ∷ []
 if_yes a (Some _) = []
 if_yes a None = None ∷ []
 
--- it gets another base where the answer is a rating
+-- it gets another base if the answer is a rating
 abbrev pub if_rated : Activation → Option Answer → List (Option Note)
 if_rated a (Some (Rated base)) = Some (Retriggered a.number base) ∷ []
 if_rated a (Some _) = []
 if_rated a None = None ∷ []
 
--- a reaction is asked about each activation that waits, for its unit and the event's
+-- a reaction is asked about every pending activation, for its unit and the event's
 abbrev pub told_about_each :
     Blackboard → Event → (Activation → Option Answer → List (Option Note)) → Reaction → (waiting : List Activation)
     → List (Option Note)
 told_about_each board event by reaction waiting =
     flat_map (λ a. by a (answer_of reaction.code (entry_of a.unit (Some (unit_of event))) board)) waiting
 
--- if there is a reaction, and its clauses name the event
+-- the same, if there is a reaction and its clauses name the event
 abbrev pub reacts :
     Plan → Blackboard → Event → (Activation → Option Answer → List (Option Note)) → Option Reaction → List Activation
     → List (Option Note)
@@ -68,28 +67,28 @@ reacts plan board event by None waiting = []
 reacts plan board event by (Some reaction) waiting =
     if any_match plan.schema reaction.clauses event then told_about_each board event by reaction waiting else []
 
--- ---- what a source gets that an event triggers
+-- ---- a source that an event triggers
 
--- the next activation, with this base
+-- it gets the next activation, with this base
 abbrev pub gets : Event → (place : ℕ) → (base : ℤ) → (past : List Note) → List (Option Note)
 gets event place base past =
     Some (Triggered
     (record { number = length (triggered_in past) + 1; source = place; unit = unit_of event; base = base })) ∷ []
 
--- it gets one with the base that its requirement rates; by any other answer it declines
+-- it gets one with the base that its requirement rates; with any other answer it declines
 abbrev pub gets_if_rated : Event → (place : ℕ) → Option Answer → (past : List Note) → List (Option Note)
 gets_if_rated event place (Some (Rated base)) past = gets event place base past
 gets_if_rated event place (Some _) past = Some (Declined place (unit_of event)) ∷ []
 gets_if_rated event place None past = None ∷ []
 
--- it gets one with its rate where it requires nothing
+-- it gets one with its rate if it requires nothing
 abbrev pub gets_by :
     Blackboard → Event → (place : ℕ) → (rate : ℤ) → Option Checked → (past : List Note) → List (Option Note)
 gets_by board event place rate None past = gets event place rate past
 gets_by board event place rate (Some code) past =
     gets_if_rated event place (answer_of code (entry_of (unit_of event) None) board) past
 
--- if one of its clauses or more names the event
+-- the same, if at least one of its clauses names the event
 abbrev pub triggers : Plan → Blackboard → Event → (place : ℕ) → Source → (past : List Note) → List (Option Note)
 triggers plan board event place source past =
     if any_match plan.schema source.triggers event then gets_by board event place source.rate source.require past
@@ -101,12 +100,13 @@ triggers plan board event place source past =
 abbrev pub known : List (Option Note) → List Note
 known all = filter_map (λ note. note) all
 
--- notes, and then those that come after them
+-- notes, followed by what comes after them
 abbrev pub and_after :
     (past : List Note) → (first : List (Option Note)) → (List Note → List (Option Note)) → List (Option Note)
 and_after past first next = first ++ next (past ++ known first)
 
--- the source at a place: what waits for it is obviated, what still waits gets another base, and then it is triggered
+-- the source at a place: its pending activations are obviated, those still pending get another base, and then it is
+-- triggered
 abbrev pub responses_of :
     Plan → Blackboard → Event → (place : ℕ) → Source → (past : List Note) → List (Option Note)
 responses_of plan board event place source past =
@@ -121,7 +121,7 @@ responses_from plan board event place [] past = []
 responses_from plan board event place (source ∷ more) past =
     and_after past (responses_of plan board event place source past) (responses_from plan board event (place + 1) more)
 
--- to events that were emitted, in order: all sources respond to the first, and then to the next
+-- the responses to events, in order: all sources respond to the first, and then to the next
 abbrev pub responses : Plan → Blackboard → List Event → (past : List Note) → List (Option Note)
 responses plan board [] past = []
 responses plan board (event ∷ events) past =

@@ -5,7 +5,7 @@ use Rattle.bb_trace.specs.Event.TheVariants.{Quiescence as quiescence}
 use Rattle.bb_trace.specs.BoardNote.TheVariants.{Event as happened}
 use Rattle.bb_trace.specs.Board.{Board as Blackboard, with_world}
 use Rattle.bb_trace.specs.World.{after_take}
-use Rattle.bb_agenda.specs.Activation.{Activation}
+use Rattle.bb_agenda.specs.declared.focusing.activation.Activation.{Activation}
 use Rattle.bb_agenda.specs.Agenda.{pending_of}
 use Rattle.bb_agenda.specs.Changes.{with_executed, with_obviated}
 use Rattle.bb_agenda.specs.Rating.{rating as rated}
@@ -13,10 +13,10 @@ use Rattle.bb_agenda.specs.Chosen.{chosen}
 use Rattle.bb_code.specs.Code.{Code}
 use Rattle.bb_verify.specs.Accepted.{Checked}
 use Rattle.bb_verify.specs.Budget.{budget}
-use Rattle.bb_machine.specs.Answer.{Answer}
-use Rattle.bb_machine.specs.Answer.TheVariants.{No}
-use Rattle.bb_machine.specs.Outcome.{Outcome}
-use Rattle.bb_machine.specs.Stop.{Stop}
+use Rattle.bb_theorem_machine.specs.Answer.{Answer}
+use Rattle.bb_theorem_machine.specs.Answer.TheVariants.{No}
+use Rattle.bb_theorem_machine.specs.Outcome.{Outcome}
+use Rattle.bb_theorem_machine.specs.Stop.{Stop}
 use Rattle.bb_trace.specs.Act.{Act}
 use Rattle.bb_trace.specs.Act.TheVariants as acts
 use Rattle.bb_trace.specs.Source.{Source}
@@ -43,7 +43,7 @@ use Rattle.bb_run.specs.Emission.{Response, Stretch, emitting, idle, over, after
 use Rattle.bb_run.specs.Asking.{attempt, end_by, entry_of, reply_by}
 use Rattle.bb_run.specs.Processing.{response, reported}
 
--- the rating of an activation in a state: its base, and the weights of all foci of the blackboard that match
+-- the rating of an activation in a state: its base plus the weights of all foci of the blackboard that match
 abbrev pub rating : Plan → State → Activation → ℤ
 rating plan s a = rated plan.schema (map rated_source plan.sources) (foci_on s.board) a
 
@@ -55,7 +55,7 @@ choice plan s = chosen (rating plan s) plan.floor (pending_of s.agenda)
 abbrev pub quiet : Plan → State → Stretch
 quiet plan s = segment (after_emitted (Board (happened quiescence) ∷ []) (response plan quiescence s))
 
--- before a cycle quiescence comes where nothing can be chosen
+-- before a cycle, quiescence comes if nothing can be chosen
 abbrev pub wait_for : Plan → State → Option Activation → Stretch
 wait_for plan s None = quiet plan s
 wait_for plan s (Some a) = idle s
@@ -64,7 +64,7 @@ wait_for plan s (Some a) = idle s
 abbrev pub wait : Plan → State → Stretch
 wait plan s = wait_for plan s (choice plan s)
 
--- the blackboard's notes are taken, and the agenda is told of the units that they name; `rating` does not go by that
+-- the blackboard's notes are taken, and the agenda is told the units that they name; `rating` does not depend on that
 abbrev pub with_notes_taken : State → State
 with_notes_taken s = record s {
   board = with_world s.board (after_take s.board.world);
@@ -75,30 +75,30 @@ with_notes_taken s = record s {
 abbrev pub noted : State → List Note → Option End → Response
 noted s more end = emitting (map Board s.board.world.notes ++ more) (with_notes_taken s) end
 
--- what an execution emits: the run is over where it did not come to an answer
+-- what an execution emits; the run is over if it came to no answer
 abbrev pub answered : Code → State → Result Outcome Stop → Response
 answered code s (Ok o) = noted s (Ended o.steps o.found (budget code o.found) ∷ []) None
 answered code s (Err stop) = noted s [] (Some (end_by stop))
 
--- what comes of an ask of this number: the blackboard after it, a refusal, or, where no unit can be created, the run is
--- over; an execution of the definitions has all memory it needs
+-- the outcome of the ask with this number: the blackboard after it, a refusal, or, if no unit can be created, the run
+-- is over; executions of the definitions never run out of memory
 abbrev pub upon_ask : (number : ℕ) → Result Blackboard Denial → State → Response
 upon_ask number (Ok board) s = noted (with_board s board) [] None
 upon_ask number (Err (denials.Refused refusal)) s = emitting (Refused number refusal ∷ []) s None
 upon_ask number (Err denials.Full) s = over finishes.Full s
 upon_ask number (Err denials.Memory) s = over finishes.Full s
 
--- asks are applied in order, with numbers from this one on
+-- asks are applied in order, numbered from this number
 unfoldable pub each_applied : (number : ℕ) → List Ask → State → Response
 each_applied number [] s = idle s
 each_applied number (ask ∷ more) s =
     and_then (upon_ask number (applied ask s.board) s) (each_applied (number + 1) more)
 
--- asks are applied, and a note tells how many there were
+-- asks are applied, and a note reports how many there were
 abbrev pub asked : (last : ℕ → Note) → List Ask → State → Response
 asked last asks s = and_then (each_applied 1 asks s) (λ t. emitting (last (length asks) ∷ []) t None)
 
--- the native at a place is called, and its asks are applied; without a native it is due
+-- the native at a place is called, and its asks are applied; if there is no native, it is due
 abbrev pub calling : Option ℕ → Activation → State → Response
 calling None a s = over (finishes.Due a) s
 calling (Some place) a s =
@@ -109,33 +109,34 @@ calling (Some place) a s =
 abbrev pub executing : Code → Activation → State → Response
 executing code a s = let e = attempt code (entry_of a.unit None) s.board in answered code (with_board s e.1) e.0
 
--- the act of the source of a name is executed for an activation
+-- the act of the source with a name is executed for an activation
 abbrev pub execution : (name : List ℕ) → Act → Activation → State → Response
 execution name (acts.Code body) a s = executing body.code a s
 execution name acts.Native a s = calling (place_of s.natives name) a s
 
--- the source at the activation's place acts; each pending activation has one
+-- the source at the activation's place acts; every pending activation has one
 abbrev pub acting : Plan → Option Source → Activation → State → Stretch
 acting plan None a s = idle s
 acting plan (Some source) a s = reported plan (execution source.name source.act a s)
 
--- what the answer of a revalidation says: an activation is still of use unless the answer is no
+-- the verdict by the answer of a revalidation: an activation is still needed unless the answer is no
 abbrev pub verdict_of : Answer → Verdict
 verdict_of No = verdicts.Invalid
 verdict_of _ = verdicts.Valid
 
--- what the reply of a revalidation says, which may be no answer
+-- the verdict by the reply of a revalidation, which may be no answer
 abbrev pub verdict_by : Reply → Verdict
 verdict_by (replies.Answer answer) = verdict_of answer
 verdict_by (replies.Over end) = verdicts.Over end
 
--- the verdict on an activation, and the blackboard after it; without a revalidation it is of use
+-- the verdict on an activation, and the blackboard after it; without a revalidation it is valid
 abbrev pub validity : Option Checked → Activation → Blackboard → Verdict × Blackboard
 validity None a board = (verdicts.Valid, board)
 validity (Some code) a board =
     let e = attempt code.code (entry_of a.unit None) board in (verdict_by (reply_by e.0), e.1)
 
--- the choice of a cycle is emitted, with the verdict on it; then the activation is no longer pending
+-- the choice of a cycle is emitted, with the verdict on it; then the activation is no longer pending, unless the run is
+-- over
 abbrev pub chosen_with : (number : ℕ) → Activation → ℤ → Verdict → State → Response
 chosen_with number a r verdicts.Valid s =
     emitting (Chosen number a r ∷ []) (with_agenda s (with_executed s.agenda a.number)) None
@@ -143,12 +144,12 @@ chosen_with number a r verdicts.Invalid s =
     emitting (Chosen number a r ∷ Invalid a.number ∷ []) (with_agenda s (with_obviated s.agenda a.number)) None
 chosen_with number a r (verdicts.Over end) s = emitting (Chosen number a r ∷ []) s (Some end)
 
--- the source that acts: that of the activation, where it is still of use
+-- the source that acts: the activation's, if it is still needed
 abbrev pub if_valid : Verdict → Option Source → Option Source
 if_valid verdicts.Valid source = source
 if_valid _ source = None
 
--- a cycle by the source of its activation: it is revalidated, the choice is emitted, and the source acts
+-- a cycle of the source of its activation: it is revalidated, the choice is emitted, and the source acts
 abbrev pub cycle_of : Plan → (number : ℕ) → Option Source → Activation → State → Stretch
 cycle_of plan number source a s =
     let v = validity (option_and_then (λ t. t.revalidate) source) a s.board in
@@ -159,12 +160,12 @@ cycle_of plan number source a s =
 abbrev pub cycle : Plan → (number : ℕ) → Activation → State → Stretch
 cycle plan number a s = cycle_of plan number (slice_get plan.sources a.source) a s
 
--- what comes of a choice: the run is over where nothing can be chosen
+-- the continuation of a choice; if nothing can be chosen, the run is over
 abbrev pub if_chosen : State → Option Activation → (Activation → Stretch) → Stretch
 if_chosen s None next = over finishes.Quiescence s
 if_chosen s (Some a) next = next a
 
--- what is left of a run after `made` cycles, where `left` more can be made
+-- the rest of a run after `made` cycles, if `left` more can be made
 unfoldable pub cycles : Plan → (made left : ℕ) → State → Stretch
 cycles plan made zero s = and_then (wait plan s) (λ t. if_chosen t (choice plan t) (λ a. over finishes.Limit t))
 cycles plan made (suc left) s =
@@ -175,11 +176,11 @@ cycles plan made (suc left) s =
 abbrev pub first_state : Plan → Blackboard → List Native → State
 first_state plan board natives = record { board = board; agenda = first_agenda plan board; natives = natives }
 
--- what the creation of the first units noted is emitted, and its events are processed
+-- what the creation of the initial units noted is emitted, and its events are processed
 abbrev pub start : Plan → Blackboard → List Native → Stretch
 start plan board natives = reported plan (noted (first_state plan board natives) [] None)
 
--- the last notes of a run: its end, and what each native says at its close, in order
+-- the last notes of a run: its end, and what every native reports at its close, in order
 abbrev pub finish : End → List Native → List Note
 finish end natives = Finished end ∷ map Closed (closings_of natives)
 
@@ -192,10 +193,10 @@ finish_segments (Some end) natives = finish end natives ∷ []
 abbrev pub with_finish : Stretch → Stretch
 with_finish p = emitting (p.emitted ++ finish_segments p.end p.state.natives) p.state p.end
 
--- the start, and then at most `limit` cycles
+-- the start, followed by at most `limit` cycles
 abbrev pub unfinished : Plan → Blackboard → List Native → (limit : ℕ) → Stretch
 unfinished plan board natives limit = and_then (start plan board natives) (cycles plan 0 limit)
 
--- the whole run from a blackboard's first state, with at most `limit` cycles
+-- the whole run from the first state of a blackboard, with at most `limit` cycles
 abbrev pub run : Plan → Blackboard → List Native → (limit : ℕ) → Stretch
 run plan board natives limit = with_finish (unfinished plan board natives limit)

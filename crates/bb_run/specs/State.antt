@@ -18,6 +18,6 @@ with_board s board = record s { board = board }
 abbrev pub with_agenda : State → Agenda → State
 with_agenda s agenda = record s { agenda = agenda }
 
--- the state with natives that were called since
+-- the state with natives after calls
 abbrev pub with_natives : State → List Native → State
 with_natives s natives = record s { natives = natives }

@@ -1,12 +1,12 @@
--- Why no run is stuck: each execution begins with units that fit its part.
+-- Why no run is stuck: every execution begins with units that fit its part.
 use Rattle.std.specs.Prelude.{◌≡◌, ◌⊎◌, ◌≤◌, ⊤, true, All, Contains, slice_get, Option, Some, None}
 use Rattle.bb_schema.specs.Schema.{Schema}
 use Rattle.bb_schema.specs.Fits as schemas
 use Rattle.bb_verify.specs.Accepted.{Checked}
-use Rattle.bb_machine.specs.Fits.{Fits, is_event_of}
-use Rattle.bb_machine.specs.Kinds.{WasOf}
-use Rattle.bb_machine.specs.NeverWrong.{Begins}
-use Rattle.bb_agenda.specs.Activation.{Activation}
+use Rattle.bb_theorem_machine.specs.Fits.{Fits, is_event_of}
+use Rattle.bb_theorem_machine.specs.Kinds.{WasOf}
+use Rattle.bb_theorem_machine.specs.NeverWrong.{Begins}
+use Rattle.bb_agenda.specs.declared.focusing.activation.Activation.{Activation}
 use Rattle.bb_agenda.specs.Agenda.{pending_of}
 use Rattle.bb_trace.specs.Act.TheVariants as acts
 use Rattle.bb_trace.specs.Board.{Board as Blackboard}
@@ -30,50 +30,50 @@ use Rattle.bb_run.specs.Processing.{events_in, response}
 
 -- ---- what a run needs
 
--- the sources of a plan were made under its schema, of sound codes
+-- the sources of a plan were made under its schema, from sound codes
 pub record IsWellMade (plan : Plan) : Type 0 where
   pub schema : schemas.Fits plan.schema
   pub made : All (IsMade plan.schema) plan.sources
   pub codes : All HasSoundCodes plan.sources
 
--- a blackboard is one of the plan's schema, and fits it
+-- the blackboard has the plan's schema and fits it
 pub record FitsPlan (plan : Plan) (board : Blackboard) : Type 0 where
   pub schema : board.schema ≡ plan.schema
   pub world : Fits plan.schema board.world
 
--- ---- what holds throughout
+-- ---- invariants
 
--- the activation's unit was created as one of its source's class, or it is that of quiescence
+-- the activation's unit was created with its source's class, or is that of quiescence
 abbrev pub SuitsSource : Plan → Blackboard → Activation → Type 0
 SuitsSource plan board a =
     (source : Source) → slice_get plan.sources a.source ≡ Some source
     → WasOf plan.schema board.world source.class a.unit
 
--- the blackboard fits, and each pending activation's unit suits its source
+-- the blackboard fits, and every pending activation suits its source
 pub record IsReady (plan : Plan) (s : State) : Type 0 where
   pub board : FitsPlan plan s.board
   pub waiting : All (SuitsSource plan s.board) (pending_of s.agenda)
 
--- what is executed for a chosen activation begins with what fits its part: its source's act, and the revalidation
+-- what is executed for a chosen activation begins with units that fit its part: its source's act, and the revalidation
 abbrev pub BeginsFor : Plan → State → Activation → Type 0
 BeginsFor plan s a =
     (source : Source) (code : Checked) → slice_get plan.sources a.source ≡ Some source
     → (source.act ≡ acts.Code code) ⊎ (source.revalidate ≡ Some code)
     → Begins code.part code.frames code.code (entry_of a.unit None) s.board
 
--- an event is one of a blackboard: its unit was created, and is of its class if it is live; or it is quiescence
+-- an event belongs to a blackboard: its unit was created, and has its class if it is live; or the event is quiescence
 abbrev pub IsEventOf : Schema → Blackboard → Event → Type 0
 IsEventOf s board event = is_event_of s board.world.units event ≡ true
 
--- an event is processed in a state that is ready, and is one of its blackboard
+-- an event is processed in a ready state, and belongs to its blackboard
 abbrev pub IsReadyFor : Plan → Event × State → Type 0
 IsReadyFor plan visit = IsReady plan visit.1 × IsEventOf plan.schema visit.1.board visit.0
 
--- in a state, each code that comes to be executed there begins with what fits its part
+-- every code that is executed in a state begins with units that fit its part
 pub record BeginsEach (plan : Plan) (s : State) : Type 0 where
-  -- what is executed for an activation that is pending
+  -- what is executed for a pending activation
   pub act : (a : Activation) → Contains (pending_of s.agenda) a → BeginsFor plan s a
-  -- what comes of that leaves a state that is ready, and the events that it emits are of its blackboard
+  -- that leaves a ready state, and the events that it emits belong to its blackboard
   pub leaves : (a : Activation) (source : Source) → Contains (pending_of s.agenda) a
       → slice_get plan.sources a.source ≡ Some source → let r = upon_choice source a s in
       IsReady plan r.state × All (IsEventOf plan.schema r.state.board) (events_in r.emitted)
@@ -82,7 +82,7 @@ pub record BeginsEach (plan : Plan) (s : State) : Type 0 where
       → Contains plan.sources source → source.require ≡ Some code
       → any_match plan.schema source.triggers event ≡ true
       → Begins code.part code.frames code.code (entry_of (unit_of event) None) s.board
-  -- a reaction of a source to such an event, about each of its pending activations
+  -- a reaction of a source to such an event, about any of its pending activations
   pub react : (event : Event) (source : Source) (reaction : Reaction) (a : Activation)
       → IsEventOf plan.schema s.board event → Contains (pending_of s.agenda) a
       → slice_get plan.sources a.source ≡ Some source
@@ -90,10 +90,10 @@ pub record BeginsEach (plan : Plan) (s : State) : Type 0 where
       → any_match plan.schema reaction.clauses event ≡ true
       → Begins reaction.code.part reaction.code.frames reaction.code.code (entry_of a.unit (Some (unit_of event)))
       s.board
-  -- what answers to such an event leaves a state that is ready
+  -- the response to such an event leaves a ready state
   pub answers : (event : Event) → IsEventOf plan.schema s.board event → IsReady plan (response plan event s).state
 
--- ---- what comes of it
+-- ---- consequences
 
 -- a run does not end stuck
 abbrev pub NotStuck : Option End → Type 0
@@ -110,7 +110,7 @@ abbrev pub KeepsBudget : Note → Type 0
 KeepsBudget (Ended steps found budget) = steps ≤ budget
 KeepsBudget _ = ⊤
 
--- a run of sources that are well made, on a blackboard that fits them
+-- a run of well-made sources, on a blackboard that fits them
 pub record IsUnstuck (run : Stretch) : Type 0 where
   -- it does not end stuck
   pub end : NotStuck run.end

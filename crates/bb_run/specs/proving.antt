@@ -1,7 +1,7 @@
--- of bb_trace: how sources, a plan and a blackboard are stored
+-- of bb_trace: how sources, a plan and a blackboard are encoded
 pub use Rattle.bb_run_plan.specs.proving.Codes
 pub use Rattle.bb_trace.specs.proving.BoardCodes
 -- which pending activations a reaction is asked about
 pub mod Own
--- what the sources at some places answer to an event
+-- the responses of the sources at some places to an event
 pub mod Responding

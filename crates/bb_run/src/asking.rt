@@ -1,5 +1,5 @@
-//! What the codes of a source answer. Processing (processing.rt) asks those that answer events, and a cycle
-//! (execution.rt) those that are about the chosen activation.
+//! Asks the codes of a source. reacting.rt and triggering.rt ask about events, and execution.rt about the chosen
+//! activation, whose act it executes by `attempt`.
 
 ghost use Rattle.std.specs.Prelude.{◌≡◌, ◌≤◌, IfOk};
 ghost use Rattle.bb_verify.specs.declared.checked.TheConstants.{FOUND_LIMIT};
@@ -13,22 +13,22 @@ use bb_trace::{Board, End, Question};
 use bb_verify::Checked;
 use std::alloc::{AllocError, Global};
 
-/// How a code replies when it is asked.
+/// The reply of a code that was asked.
 #[derive(Clone, Copy, Debug)]
 pub(crate) enum Reply {
     Answer(Answer),
-    /// The code came to no answer, so the run is over.
+    /// The code came to no answer, and the run is over.
     Over(End),
 }
 
-/// What the code of a part begins with.
+/// Returns the entry that the code of a part begins with.
 pub(crate) fn entry_of(it: UnitId, ev: Option<UnitId>) -> Entry
     ensures { result ≡ entry_of it ev }
 {
     Entry { it, ev }
 }
 
-/// Executes a code for an entry.
+/// Executes a code for an entry. The errors: no unit can be created, or out of memory.
 pub(crate) fn attempt(
     alloc: Global,
     code: &Checked,
@@ -42,7 +42,7 @@ pub(crate) fn attempt(
     exec(alloc, code, board, entry)
 }
 
-/// Asks a question. The blackboard stays as it was.
+/// Asks a question. The blackboard stays unchanged. The error: out of memory.
 pub(crate) fn ask(
     alloc: Global,
     code: &Question,
@@ -53,7 +53,7 @@ pub(crate) fn ask(
     ensures replied { IfOk result (λ reply. Replies (attempt code.now.code entry board.old) reply board.new) }
     ensures kept { IfOk result (λ _. board.new ≡ board.old) }
 {
-    // For the proof: what is asked only reads.
+    // For the proof: a question only reads.
     code.fits();
     match attempt(alloc, code.checked(), entry, board) {
         Ok(outcome) => Ok(Reply::Answer(outcome.answer)),

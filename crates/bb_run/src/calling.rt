@@ -1,5 +1,5 @@
-//! Asks are applied to the blackboard one by one: those of a native, which a cycle calls where its source has one for
-//! its act (execution.rt) or its host answers for, and those from outside (cycles.rt).
+//! Applies asks to the blackboard, one by one: those of a native, which a cycle calls (execution.rt) or whose host
+//! answers for it, and those from outside (cycles.rt).
 
 ghost use Rattle.std.specs.Prelude.{◌≡◌, ◌<◌, IfOk, Some, length, map};
 ghost use Rattle.bb_trace.specs.Applied.{applied};
@@ -14,7 +14,7 @@ use bb_agenda::Activation;
 use bb_trace::{Ask, Denial, End, NativeSource, Note, View, apply};
 use std::alloc::AllocError;
 
-// Applies an ask of this number. A refused ask is noted; where no unit can be created the run is over.
+// Applies the ask with this number. A refused ask is noted; if no unit can be created, the run is over.
 fn apply_one<N: NativeSource>(
     number: u64,
     ask: Ask,
@@ -41,7 +41,7 @@ fn apply_one<N: NativeSource>(
     }
 }
 
-// Applies asks in order, with numbers from 1 on, until the run is over.
+// Applies asks in order, numbered from 1, until the run is over.
 fn apply_each<N: NativeSource>(
     asks: Vec<Ask>,
     state: &mut State<N>,
@@ -60,8 +60,8 @@ fn apply_each<N: NativeSource>(
     Ok(None)
 }
 
-/// Calls the native at a place for the unit of an activation, applies what it asks, and appends the notes of that.
-/// Returns the end of the run if it ends there.
+/// Calls the native at a place for the unit of an activation, applies its asks, and appends their notes. Returns the
+/// end of the run if it ends there.
 pub(crate) fn call<N: NativeSource>(
     place: usize,
     activation: Activation,
@@ -78,7 +78,7 @@ pub(crate) fn call<N: NativeSource>(
     apply_answer(asks, state, notes)
 }
 
-/// Applies what a native asks, and appends the notes of that. Returns the end of the run if it ends there.
+/// Applies the asks of a native and appends their notes. Returns the end of the run if it ends there.
 pub(crate) fn apply_answer<N: NativeSource>(
     asks: Vec<Ask>,
     state: &mut State<N>,
@@ -95,7 +95,7 @@ pub(crate) fn apply_answer<N: NativeSource>(
     Ok(None)
 }
 
-/// Applies asks from outside the run, and appends the notes of that. Returns the end of the run if it ends there.
+/// Applies asks from outside the run and appends their notes. Returns the end of the run if it ends there.
 pub(crate) fn apply_posted<N: NativeSource>(
     asks: Vec<Ask>,
     state: &mut State<N>,

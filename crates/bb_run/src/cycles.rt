@@ -1,5 +1,5 @@
-//! The cycles of a run, in parts as its definition has them, and what else a host has a run do between them. A whole run
-//! (whole.rt) is made of them.
+//! The cycles of a run, in the parts of its definition, and what else a host lets a run do between them. A whole run
+//! (whole.rt) is built from them.
 
 ghost use Rattle.std.specs.Prelude.{◌≡◌, ◌+◌, ◌-◌, Some, OnOk, false, option_and_then, option_map, slice_get};
 ghost use Rattle.bb_trace.specs.Page.{stopped_by_write};
@@ -20,14 +20,14 @@ use bb_agenda::Activation;
 use bb_run_plan::Plan;
 use bb_trace::{Ask, End, Halt, NativeSource, Note, Out, Question, Source};
 
-/// What comes before a cycle: an activation is chosen, or the run is over.
+/// The decision before a cycle: an activation is chosen, or the run is over.
 #[derive(Clone, Copy, Debug)]
 pub(crate) enum Decision {
     Act(Activation),
     Over(End),
 }
 
-/// Chooses an activation, if one can be chosen. The agenda rates by the foci that it was told of: the blackboard's.
+/// Chooses an activation, if one can be chosen. The agenda rates by the foci it was told, which are the blackboard's.
 pub fn choose<N: NativeSource>(plan: &Plan, state: &State<N>) -> Option<Activation>
     requires knows { Knows plan.now (seen N.meaning state.now) }
     ensures { result ≡ choice plan.now (seen N.meaning state.now) }
@@ -36,7 +36,7 @@ pub fn choose<N: NativeSource>(plan: &Plan, state: &State<N>) -> Option<Activati
     Some(state.agenda.activation(number))
 }
 
-// The code by which a source revalidates, if it has one.
+// The code with which a source revalidates, if it has one.
 fn revalidation(source: Option<&Source>) -> Option<&Question>
     ensures { option_map (λ c. c.now) result
         ≡ option_and_then (λ t. t.revalidate) (option_map (λ s. s.now) source.entry) }
@@ -44,7 +44,7 @@ fn revalidation(source: Option<&Source>) -> Option<&Question>
     source?.parts().revalidate.as_ref()
 }
 
-// The source that acts, where the verdict on its activation lets it.
+// The source that acts, if the verdict on its activation is that it is valid.
 fn if_valid(verdict: Verdict, source: Option<&Source>) -> Option<&Source>
     ensures { option_map (λ s. s.now) result ≡ if_valid verdict (option_map (λ s. s.now) source.entry) }
 {
@@ -55,8 +55,8 @@ fn if_valid(verdict: Verdict, source: Option<&Source>) -> Option<&Source>
 }
 
 impl<O: Out> Runner<'_, O> {
-    // Chooses an activation, after quiescence where none can be chosen at once. The run is over where none can be
-    // chosen after it either.
+    // Chooses an activation, after quiescence if none can be chosen at once. The run is over if none can be chosen
+    // after quiescence either.
     fn decide<N: NativeSource>(
         &mut self,
         plan: &Plan,
@@ -82,7 +82,7 @@ impl<O: Out> Runner<'_, O> {
         }
     }
 
-    // Has a source act for an activation.
+    // Lets a source act for an activation.
     fn act<N: NativeSource>(
         &mut self,
         plan: &Plan,
@@ -105,8 +105,8 @@ impl<O: Out> Runner<'_, O> {
         self.report(plan, &notes, end, state)
     }
 
-    /// Makes a cycle: asks whether the activation is still of use, emits the choice, takes it off what is pending,
-    /// and has its source act.
+    /// Makes a cycle: asks whether the activation is still needed, emits the choice, removes the activation from the
+    /// pending ones, and lets its source act if it is valid. Returns the end of the run if it ends there.
     pub fn make_cycle<N: NativeSource>(
         &mut self,
         plan: &Plan,
@@ -142,8 +142,8 @@ impl<O: Out> Runner<'_, O> {
         }
     }
 
-    /// Makes cycles up to the one of number `last`, after `made` of them, counts them on, and returns the end of the
-    /// run.
+    /// Makes cycles up to the one with number `last`, `made` of which were made before; counts them in `made`. Returns
+    /// the end of the run.
     pub fn make_cycles<N: NativeSource>(
         &mut self,
         plan: &Plan,
@@ -178,7 +178,8 @@ impl<O: Out> Runner<'_, O> {
         }
     }
 
-    /// Emits quiescence. Returns the end of the run where nothing can be chosen after it either.
+    /// Emits quiescence and processes it. Returns the end of the run if it ends there, or if nothing can be chosen
+    /// afterwards either.
     pub fn rest<N: NativeSource>(
         &mut self,
         plan: &Plan,
@@ -201,7 +202,7 @@ impl<O: Out> Runner<'_, O> {
         }
     }
 
-    /// Applies asks from outside the run, and processes their events. Returns the end of the run if it ends there.
+    /// Applies asks from outside the run and processes their events. Returns the end of the run if it ends there.
     pub fn post<N: NativeSource>(
         &mut self,
         plan: &Plan,
@@ -221,7 +222,7 @@ impl<O: Out> Runner<'_, O> {
         self.report(plan, &notes, end, state)
     }
 
-    /// Applies what a native that is due asks, and processes the events of that. Returns the end of the run if it ends
+    /// Applies the asks of a native that is due and processes their events. Returns the end of the run if it ends
     /// there.
     pub fn answer<N: NativeSource>(
         &mut self,

@@ -1,4 +1,5 @@
-//! How a run is ended and written: its last segment, and what waits on the page where it is cut short.
+//! How a run ends and is written: its last segment, or the rest of the page if it is cut short. whole.rt calls it, and
+//! so does bb_run_held.
 
 ghost use Rattle.std.specs.Prelude.{◌≡◌, [], ◌∷◌, IfOk, Ok, false, map};
 ghost use Rattle.bb_trace.specs.Page.{halted_by_write, stopped_by_write};
@@ -11,7 +12,7 @@ use bb_trace::{Closed, End, Halt, Note, Out};
 use std::alloc::{AllocError, Global};
 
 impl<O: Out> Runner<'_, O> {
-    // Emits the end, and what each native said at its close, and writes all.
+    // Emits the end and what each native reports at its close, and writes everything.
     fn conclude(&mut self, plan: &Plan, end: End, closed: Closed) -> Result<End, Halt>
         requires open { O.has_failed self.old.out.now ≡ false }
         ensures same { Same self.old self.new }
@@ -31,7 +32,7 @@ impl<O: Out> Runner<'_, O> {
         Ok(end)
     }
 
-    // Ends a run that is cut short: where memory ran out, what was emitted before is written. Returns why it is cut short.
+    // Ends a run that is cut short: if memory ran out, writes what was emitted before. Returns why it is cut short.
     fn cut_short(&mut self, halt: Halt) -> Halt
         requires open { O.has_failed self.old.out.now ≡ halted_by_write halt }
         ensures same { Same self.old self.new }
@@ -44,7 +45,7 @@ impl<O: Out> Runner<'_, O> {
         }
     }
 
-    /// Writes what was emitted of a part of a run, whether it was cut short in it or not.
+    /// Writes what a part of a run emitted, whether the run was cut short in it or not.
     pub fn written<X: Copy>(&mut self, emitted: Result<X, Halt>) -> Result<X, Halt>
         requires open { O.has_failed self.old.out.now ≡ stopped_by_write emitted }
         ensures same { Same self.old self.new }
@@ -60,8 +61,8 @@ impl<O: Out> Runner<'_, O> {
         }
     }
 
-    /// Ends a run, whether it was made or was cut short: emits its end, and what each native said at its close, and writes
-    /// all that was emitted.
+    /// Ends a run, whether it was made or was cut short: emits its end and what each native reports at its close, and
+    /// writes everything emitted.
     pub fn end_by(
         &mut self,
         plan: &Plan,
@@ -80,7 +81,7 @@ impl<O: Out> Runner<'_, O> {
         }
     }
 
-    // Writes what was emitted before memory ran out, and returns why the run is cut short.
+    // Writes what was emitted before memory ran out. Returns why the run is cut short.
     fn give_up(&mut self) -> Halt
         requires open { O.has_failed self.old.out.now ≡ false }
         ensures same { Same self.old self.new }
@@ -94,7 +95,7 @@ impl<O: Out> Runner<'_, O> {
     }
 }
 
-// The notes of the last segment: the end of the run, and what each native said at its close.
+// The notes of the last segment: the end of the run, and what each native reports at its close.
 fn last_notes(alloc: Global, end: End, closed: Closed) -> Result<Vec<Note>, AllocError>
     ensures { IfOk result (λ notes. notes.items ≡ Finished end ∷ map ClosedNote closed) }
 {

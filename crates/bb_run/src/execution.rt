@@ -1,5 +1,5 @@
-//! What a cycle does with its activation: it asks whether it is still of use, and executes its source's act. The cycle
-//! (cycles.rt) has the notes emitted.
+//! What a cycle does with its activation: it asks whether the activation is still needed, and executes the source's
+//! act. The cycle (cycles.rt) emits the notes.
 
 ghost use Rattle.std.specs.Prelude.{◌≡◌, IfOk, None, Some, option_map};
 ghost use Rattle.bb_agenda.specs.Rating.{rating_in};
@@ -21,18 +21,18 @@ use bb_trace::{Act, Board, End, NativeSource, Note, Question, Source};
 use bb_verify::Checked;
 use std::alloc::{AllocError, Global};
 
-/// What a revalidation says of a chosen activation.
+/// The verdict of a revalidation on a chosen activation.
 #[derive(Clone, Copy, Debug)]
 pub(crate) enum Verdict {
-    /// The activation is still of use.
+    /// The activation is still needed.
     Valid,
-    /// The activation is no longer of use.
+    /// The activation is not needed any more.
     Invalid,
-    /// The revalidation came to no answer, so the run is over.
+    /// The revalidation came to no answer, and the run is over.
     Over(End),
 }
 
-// What a reply to the question of a revalidation says.
+// The verdict by a revalidation's reply.
 fn verdict_by(reply: &Reply) -> Verdict
     ensures { result ≡ verdict_by reply.now }
 {
@@ -43,7 +43,7 @@ fn verdict_by(reply: &Reply) -> Verdict
     }
 }
 
-/// Asks the revalidation of a source about an activation, if there is one.
+/// Asks the revalidation of a source, if there is one, about an activation. Without one, it is valid.
 pub(crate) fn validate(
     alloc: Global,
     code: Option<&Question>,
@@ -64,8 +64,8 @@ pub(crate) fn validate(
     }
 }
 
-/// Appends the notes of the choice of a cycle, with the verdict on it, and takes the activation off what is pending.
-/// Returns the end of the run if the verdict is that it is over.
+/// Appends the notes of a cycle's choice, with the verdict on it, and removes the activation from the pending ones. If
+/// the verdict is that the run is over, the activation stays, and the end of the run is returned.
 pub(crate) fn take_choice<N: NativeSource>(
     cycle: u64,
     activation: Activation,
@@ -98,8 +98,8 @@ pub(crate) fn take_choice<N: NativeSource>(
     }
 }
 
-/// Executes the act of a source for an activation, and appends the notes of it. Returns the end of the run if the
-/// execution came to no answer, or if the act is a native that was not handed in.
+/// Executes the act of a source for an activation and appends its notes. Returns the end of the run if the execution
+/// came to no answer, or if the act is a native that was not handed in.
 pub(crate) fn execute<N: NativeSource>(
     source: &Source,
     activation: Activation,
@@ -119,7 +119,7 @@ pub(crate) fn execute<N: NativeSource>(
     }
 }
 
-// Calls the native of a name. Where none of it was handed in it is due, and nothing happens.
+// Calls the native with a name. If none was handed in, the native is due and nothing happens.
 fn execute_native<N: NativeSource>(
     name: &str,
     activation: Activation,

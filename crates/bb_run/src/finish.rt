@@ -1,4 +1,4 @@
-//! How a run ends, also where it is cut short. `run` returns it.
+//! How a run ends, including when it is cut short. `run` returns it.
 
 ghost use Rattle.std.specs.Prelude.{◌≡◌, Some};
 ghost use Rattle.bb_run.specs.Finish.{end_of};
@@ -17,12 +17,12 @@ pub enum Finish {
     Full,
     /// Memory ran out.
     Memory,
-    /// The output took no more.
+    /// The output failed.
     Write,
 }
 
 impl Finish {
-    /// The finish of a run that came to this end. A run that has a native due is not finished.
+    /// Returns the finish of a run with this end. A run with a native due is not finished.
     pub fn of(end: End) -> Finish
         requires not_due { NotDue (Some end) }
         ensures { end_of result ≡ Some end }

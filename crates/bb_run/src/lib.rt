@@ -2,8 +2,8 @@
 //! best one.
 //!
 //! - In: a `Plan`, a `Board` and a roster of natives (`Start`), a limit of cycles and an output.
-//! - Out: `run`, how the run ended, with its trace written to the output and each native closed once.
-//! - Callers rely on: the trace is that of the abstract blackboard machine (`specs/Run`), whatever the sources do.
+//! - Out: `run`, which writes the trace to the output, closes every native once, and returns how the run ended.
+//! - Callers rely on: the trace is the abstract blackboard machine's (`specs/Run`), whatever the sources do.
 //! - Cases: `runs`, `triggers`, `foci`, `floors`, `limits_of_runs`, `model-runs`; tests in bb_shell_tests.
 #![tactic(auto)]
 

@@ -1,5 +1,5 @@
-//! Taking what the blackboard noted into the notes of the run. Executions (execution.rt, calling.rt) end with it, and a
-//! run (cycles.rt) begins with it.
+//! Moves the blackboard's notes into the notes of the run. Executions (execution.rt, calling.rt) end with it, and a run
+//! (whole.rt) begins with it.
 
 ghost use Rattle.std.specs.Prelude.{◌≡◌, ◌++◌, IfOk, Option, map};
 ghost use Rattle.bb_trace.specs.End.{End};
@@ -13,7 +13,7 @@ use bb_run_plan::tell_notes;
 use bb_trace::{BoardNote as Noted, NativeSource, Note};
 use std::alloc::AllocError;
 
-// Appends what a blackboard noted, as notes of the run.
+// Appends the notes of a blackboard as notes of the run.
 fn add_board_notes(notes: &mut Vec<Note>, noted: Vec<Noted>) -> Result<(), AllocError>
     ensures { IfOk result (λ _. notes.new.items ≡ notes.old.items ++ map BoardNote noted.items) }
 {
@@ -23,8 +23,8 @@ fn add_board_notes(notes: &mut Vec<Note>, noted: Vec<Noted>) -> Result<(), Alloc
     Ok(())
 }
 
-/// Takes what the blackboard noted: tells the agenda of the units that it names, and appends it to the notes, and one
-/// note more if there is one.
+/// Takes the blackboard's notes: tells the agenda about the units that they name, and appends them to the notes, and
+/// then `last` if there is one.
 pub(crate) fn take_noted<N: NativeSource>(
     state: &mut State<N>,
     last: Option<Note>,

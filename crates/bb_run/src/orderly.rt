@@ -1,7 +1,7 @@
-//! What holds of every run. No code calls it: it says what the runs are like that `run_texts` writes.
+//! What holds of every run. No code calls it; it states what the runs that `run_texts` writes are like.
 
 ghost use Rattle.std.specs.Prelude.{◌≡◌, ℕ, ◌+◌, ◌-◌, ℤ, List, ◌∷◌, ◌++◌};
-ghost use Rattle.bb_agenda.specs.Activation.{Activation};
+ghost use Rattle.bb_agenda.specs.declared.focusing.activation.Activation.{Activation};
 ghost use Rattle.bb_trace.specs.Act.{Act};
 ghost use Rattle.bb_trace.specs.Board.{Board};
 ghost use Rattle.bb_trace.specs.declared.note.Note.{Note};
@@ -19,57 +19,56 @@ ghost use Rattle.bb_run.specs.Responds.{Responds};
 ghost use Rattle.bb_run.specs.Reads.{AsksByReading, ReadsOnly};
 ghost use Rattle.bb_run.specs.Unstuck.{BeginsEach, FitsPlan, IsReady, IsUnstuck, IsWellMade};
 
-/// What every run is like, whatever the plan, the first state of the blackboard, the natives and the limit.
+/// States what every run is like, for any plan, first state of the blackboard, natives and limit.
 ///
-/// - `phases`: a run begins with what its blackboard had noted. After that a note of the blackboard comes between a
-///   choice and the end of its cycle, or it is quiescence, which comes where no cycle is open, not twice without a
-///   choice between, and in a state in which nothing that is pending by the notes can be chosen. A cycle ends before
-///   the next begins. A run that finishes by quiescence has emitted it, and made no choice after it. Activations
-///   have the numbers from 1 on.
-/// - `choices`: up to the choice of a cycle a run is the run whose limit is one less, and in the last state of that
-///   run the activation is chosen. It is pending by the notes, and was never chosen nor obviated; it is rated at
-///   least the floor, nothing that is pending is rated higher, and of equals it is the earliest. Cycles have the
-///   numbers from 1 on.
+/// - `phases`: a run begins with what its blackboard had noted. After that, a note of the blackboard comes between a
+///   choice and the end of its cycle, or is quiescence. Quiescence comes only while no cycle is open, not twice without
+///   a choice in between, and in a state in which no activation that is pending by the notes can be chosen. A cycle
+///   ends before the next begins. A run that finishes by quiescence has emitted it and made no choice after it.
+///   Activations are numbered from 1.
+/// - `choices`: up to the choice of a cycle, a run is the run whose limit is one less than the cycle's number, and the
+///   activation is chosen in the last state of that run. It is pending by the notes, and was never chosen or obviated;
+///   it is rated at least the floor, no pending activation is rated higher, and of equals it is the earliest. Cycles
+///   are numbered from 1.
 /// - `followed`: right after a choice comes what its source's act emits for the activation's unit, executed on the
-///   blackboard and with the natives of that state, and the finish if the run ends there. Where the source's
-///   revalidation says no, it is that the activation is invalid.
-/// - `acts`: a code that is executed emits what the blackboard noted in it, and then its steps, the units that it
-///   found and its budget; where it comes to no answer the run is over. Of a native that is called each ask is
-///   reported, from number 1 on: what the blackboard noted, or that it was refused. Each is applied to the
-///   blackboard that those before it left. Where there is no native, the run is over with it due.
-/// - `responds`: right after events are emitted the sources respond to them: to what the blackboard had noted, to
-///   what is emitted upon a choice, and to quiescence. To one event after another, source by source, they emit what
-///   their codes answer on the blackboard as it is then. First each activation that waits for the source is obviated
-///   if the code of `obviate` says yes about it; then each that still waits gets the base that the code of
-///   `retrigger` rates; then, if the event triggers the source, it gets the next activation, with the base that its
-///   requirement rates, or its rate if it requires nothing, or declines. Where a code comes to no answer, or the
-///   agenda is full, the finish comes; else, after all responses, quiescence, a choice or the finish. The blackboard
-///   and the natives of a choice are those that the execution before it left, and of the first choice those that
-///   were handed in. This is of plans whose codes write nothing where a source asks them, as by `reads` those of
-///   every plan do.
-/// - `reads`: what answers to an event changes the agenda alone, and what is asked about a choice changes nothing.
-/// - `ends`: a run has an end, which it emits once, and after it nothing but the closings of its natives: each is
-///   closed once, in order, as the run left it, the same but for what it holds. The run is full only where 65,536
-///   activations are pending in its last state, or the last number was given, or where no unit can be created there
-///   and its last execution was stopped for that, or its last native asked for one; it is stuck only where its last
-///   execution was; a native is due only where the source of the activation that was chosen has one for its act, and
-///   there is none of its name. It makes no more cycles than its limit. Where it ends by that it made as many, and
-///   something can still be chosen; where it ends in quiescence nothing can be.
-/// - `longer`: a longer limit changes nothing before the finish of a run that ends by its limit, and nothing at all
-///   of another.
-/// - `leaves`: in the last state of a run, and so at each choice, no more than 65,536 activations are pending, and
-///   the agenda was told of the foci that the blackboard then has. Where the sources were made under the
-///   blackboard's schema, of codes that the verifier accepted under it, the state is ready: the blackboard fits, and
-///   the unit of each pending activation was created as one of its source's class, or it is that of quiescence.
-/// - `begins`: in a state that is ready each code begins with units that fit its part: the act and the revalidation
-///   of what is pending, and what sources ask about an event of the blackboard. What comes of either leaves such a
-///   state, and the events of an act are of the blackboard that it leaves.
-/// - `unstuck`: so no run of such sources is stuck, whatever the reason, and no execution makes more steps than the
+///   blackboard and with the natives of that state, and the finish if the run ends there. If the source's revalidation
+///   says no, it is the note that the activation is invalid.
+/// - `acts`: an executed code emits what the blackboard noted during it, and then its steps, the units that it found
+///   and its budget; if it comes to no answer, the run is over. For a called native, every ask is reported, from number
+///   1: what the blackboard noted, or that the ask was refused. Each ask is applied to the blackboard that the earlier
+///   ones left. If there is no such native, the run is over with it due.
+/// - `responds`: right after events are emitted, the sources respond to them: to what the blackboard had noted, to what
+///   is emitted upon a choice, and to quiescence. Event by event and source by source, they emit what their codes
+///   answer on the blackboard as it is then. First, each pending activation of the source is obviated if the code of
+///   `obviate` says yes about it. Then each one that is still pending gets the base that the code of `retrigger` rates.
+///   Then, if the event triggers the source, the source gets the next activation, with the base that its requirement
+///   rates, or its rate if it requires nothing, or it declines. If a code comes to no answer, or the agenda is full,
+///   the finish comes; else, after all responses, comes quiescence, a choice or the finish. The blackboard and the
+///   natives of a choice are those that the execution before it left; for the first choice, they are those handed in.
+///   This holds for plans whose codes write nothing if a source asks them; by `reads`, it holds for every plan.
+/// - `reads`: responses to an event change only the agenda, and what is asked about a choice changes nothing.
+/// - `ends`: a run has an end, which it emits once. After it come only the closings of its natives: each is closed
+///   once, in order, as the run left it, the same except for what it holds. The run is full only if, in its last state,
+///   65,536 activations are pending, or the last number was given, or no unit can be created and either its last
+///   execution was stopped for that or its last native asked for one. It is stuck only if its last execution was. A
+///   native is due only if the source of the chosen activation has a native for its act, and there is none of its name.
+///   A run makes no more cycles than its limit. If it ends by its limit, it made that many, and something can still be
+///   chosen; if it ends in quiescence, nothing can be.
+/// - `longer`: a longer limit changes nothing before the finish of a run that ends by its limit, and nothing at all of
+///   any other run.
+/// - `leaves`: in the last state of a run, and therefore at each choice, no more than 65,536 activations are pending,
+///   and the agenda was told the foci that the blackboard then has. If the sources were made under the blackboard's
+///   schema, from codes that the verifier accepted under it, the state is ready: the blackboard fits, and the unit of
+///   every pending activation was created with its source's class, or is that of quiescence.
+/// - `begins`: in a ready state, every code begins with units that fit its part: the act and the revalidation of a
+///   pending activation, and what sources ask about an event of the blackboard. Both leave a ready state, and the
+///   events of an act belong to the blackboard that it leaves.
+/// - `unstuck`: therefore no run of such sources is stuck, for any reason, and no execution makes more steps than the
 ///   budget on its line.
 ///
-/// What follows from these clauses is no clause: that sources are triggered as the events ask for it, that each
-/// execution follows its choice, and that no native is due at the end where none is lacking. Lemmas show it from the
-/// clauses alone (`proofs/Corollaries`).
+/// Consequences of these clauses are not clauses: that sources are triggered as the events demand, that each execution
+/// follows its choice, and that no native is due at the end if none is lacking. Lemmas derive them from the clauses
+/// only (`proofs/Corollaries`).
 pub fn runs_are_orderly()
     ensures phases { (plan : Plan) (board : Board) (natives : List Native) (limit : ℕ) →
         GoesByPhases plan board natives (run plan board natives limit) }

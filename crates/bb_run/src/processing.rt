@@ -1,4 +1,4 @@
-//! The processing of an event. The runner (runner.rt) calls it for each event, and for quiescence.
+//! Processes an event. The runner (runner.rt) calls it for every event, and for quiescence.
 
 ghost use Rattle.std.specs.Prelude.{◌≡◌, IfOk, None, Some, option_map, slice_get, true};
 ghost use Rattle.bb_agenda.specs.Agenda.{pending_for};
@@ -28,7 +28,7 @@ struct Placed<'a> {
     place: u16,
 }
 
-// Has a source obviate its pending activations, if the event is one for that.
+// Lets a source obviate its pending activations, if the clauses of its reaction name the event.
 fn obviate<N: NativeSource>(
     schema: &Schema,
     placed: Placed<'_>,
@@ -52,7 +52,7 @@ fn obviate<N: NativeSource>(
     }
 }
 
-// Has a source rate its pending activations again, if the event is one for that.
+// Lets a source rate its pending activations again, if the clauses of its reaction name the event.
 fn retrigger<N: NativeSource>(
     schema: &Schema,
     placed: Placed<'_>,
@@ -76,7 +76,7 @@ fn retrigger<N: NativeSource>(
     }
 }
 
-// Has an event trigger a source, if one of its clauses names the event.
+// Lets an event trigger a source, if one of its clauses names the event.
 fn trigger<N: NativeSource>(
     schema: &Schema,
     placed: Placed<'_>,
@@ -101,7 +101,7 @@ fn trigger<N: NativeSource>(
     }
 }
 
-// Has a source respond to an event.
+// Lets a source respond to an event.
 fn source_responds<N: NativeSource>(
     plan: &Plan,
     placed: Placed<'_>,
@@ -126,14 +126,14 @@ fn source_responds<N: NativeSource>(
     trigger(schema, placed, event, state, notes)
 }
 
-/// The source at a place, if there is one.
+/// Returns the source at a place, if there is one.
 pub(crate) fn source_at(sources: &[Source], place: u16) -> Option<&Source>
     ensures { option_map (λ s. s.now) result ≡ slice_get sources.now place }
 {
     sources.get(place as usize)
 }
 
-// Has the source at a place respond to an event.
+// Lets the source at a place respond to an event.
 fn place_responds<N: NativeSource>(
     plan: &Plan,
     place: u16,
@@ -155,9 +155,9 @@ fn place_responds<N: NativeSource>(
     }
 }
 
-/// Processes an event: each source in order obviates and retriggers its pending activations, and is triggered, and the
-/// notes of that are appended. Sources without a clause of the kind of the event are skipped, as they would do nothing.
-/// Returns the end of the run if it ends there.
+/// Processes an event: each source in order obviates and retriggers its pending activations and is triggered, and the
+/// notes are appended. Sources without a clause of the event's kind are skipped, since they would do nothing. Returns
+/// the end of the run if it ends there.
 pub(crate) fn respond<N: NativeSource>(
     plan: &Plan,
     event: Event,

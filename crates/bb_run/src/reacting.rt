@@ -1,4 +1,4 @@
-//! What a source does about its pending activations at an event. Processing (processing.rt) calls it.
+//! What a source does about its pending activations at an event. processing.rt calls it.
 
 ghost use Rattle.std.specs.Prelude.{◌≡◌, IfOk, None, filter};
 ghost use Rattle.bb_agenda.specs.Agenda.{is_on, pending_for};
@@ -16,7 +16,7 @@ use bb_schema::UnitId;
 use bb_trace::{End, Event, NativeSource, Note, Reaction};
 use std::alloc::{AllocError, Global};
 
-// What is pending of the source at a place, in order.
+// The pending activations of the source at a place, in order.
 fn waiting_for(alloc: Global, agenda: &Agenda, place: u16) -> Result<Vec<Activation>, AllocError>
     ensures { IfOk result (λ waiting. waiting.items ≡ pending_for agenda.now place) }
 {
@@ -27,7 +27,7 @@ fn waiting_for(alloc: Global, agenda: &Agenda, place: u16) -> Result<Vec<Activat
     Ok(waiting)
 }
 
-// What is pending of the source at a place for a unit, in order.
+// The pending activations of the source at a place for a unit, in order.
 fn waiting_on(
     alloc: Global,
     agenda: &Agenda,
@@ -48,7 +48,7 @@ fn waiting_on(
 }
 
 // The pending activations of the source at a place that a reaction is asked about at an event, in order: only those for
-// the event's unit, where it says no about any other.
+// the event's unit if it says no about any other.
 fn asked_about(
     alloc: Global,
     agenda: &Agenda,
@@ -66,7 +66,7 @@ fn asked_about(
     }
 }
 
-// Asks whether a pending activation is needless, and obviates it if so.
+// Asks whether a pending activation is needless, and obviates it if it is.
 fn obviate_one<N: NativeSource>(
     reaction: &Reaction,
     event: Event,
@@ -113,7 +113,7 @@ fn rerate<N: NativeSource>(
     Ok(())
 }
 
-// Asks whether a pending activation gets another base, and gives it that if so.
+// Asks whether a pending activation gets another base, and gives it that base if it does.
 fn retrigger_one<N: NativeSource>(
     reaction: &Reaction,
     event: Event,
@@ -137,7 +137,7 @@ fn retrigger_one<N: NativeSource>(
     }
 }
 
-/// Obviates those pending activations of the source at a place that an event makes needless.
+/// Obviates the pending activations of the source at a place that an event makes needless.
 pub(crate) fn obviate_all<N: NativeSource>(
     reaction: &Reaction,
     event: Event,
@@ -160,7 +160,7 @@ pub(crate) fn obviate_all<N: NativeSource>(
     Ok(None)
 }
 
-/// Gives another base to those pending activations of the source at a place that an event rates again.
+/// Gives another base to the pending activations of the source at a place that an event rates again.
 pub(crate) fn retrigger_all<N: NativeSource>(
     reaction: &Reaction,
     event: Event,

@@ -1,4 +1,4 @@
-//! What the run writes: segments, and the parts of the run that emit them. The cycles (cycles.rt) are made through it.
+//! What a run writes: segments, and the parts of the run that emit them. The cycles (cycles.rt) are made through it.
 
 ghost use Rattle.std.specs.Prelude.{◌≡◌, ◌≤◌, ◌∷◌, [], All, false, length};
 ghost use Rattle.bb_trace.specs.Page.{stopped_by_write};
@@ -16,14 +16,14 @@ use bb_run_plan::Plan;
 use bb_trace::{BoardNote as Noted, End, Event, Halt, NativeSource, Note, Out, Page};
 use std::alloc::Global;
 
-/// What makes a run and writes it: the page, and where that is written.
+/// Makes a run and writes it: the page, and the output that it is written to. A `Halt` means that the run is cut short.
 #[derive(Drop)]
 pub struct Runner<'a, O: Out> {
     pub page: &'a mut Page,
     pub out: &'a mut O,
 }
 
-// The event of a note, if it is one of an event.
+// The event of a note, if it has one.
 fn event_in(note: &Note) -> Option<Event>
     ensures { option_list result ≡ event_in note.now }
 {
@@ -34,12 +34,12 @@ fn event_in(note: &Note) -> Option<Event>
 }
 
 impl<O: Out> Runner<'_, O> {
-    /// The allocator of the page.
+    /// Returns the allocator of the page.
     pub(crate) fn alloc(&self) -> Global {
         self.page.alloc()
     }
 
-    /// Emits a segment, and writes the page if it is long.
+    /// Emits a segment and spills the page.
     pub(crate) fn emit(&mut self, plan: &Plan, notes: &[Note]) -> Result<(), Halt>
         requires open { O.has_failed self.old.out.now ≡ false }
         ensures same { Same self.old self.new }
@@ -50,7 +50,7 @@ impl<O: Out> Runner<'_, O> {
         self.page.spill(self.out)
     }
 
-    // Emits a segment, and writes the page.
+    // Emits a segment and writes the page.
     fn emit_now(&mut self, plan: &Plan, notes: &[Note]) -> Result<(), Halt>
         requires open { O.has_failed self.old.out.now ≡ false }
         ensures same { Same self.old self.new }
@@ -81,7 +81,7 @@ impl<O: Out> Runner<'_, O> {
         Ok(end)
     }
 
-    // Processes the events among notes, one after another, until the run ends.
+    // Processes the events among notes, one by one, until the run ends.
     fn process_all<N: NativeSource>(
         &mut self,
         plan: &Plan,
@@ -108,7 +108,7 @@ impl<O: Out> Runner<'_, O> {
         Ok(None)
     }
 
-    /// Emits quiescence, and processes it. The page is written at once, since whoever follows the run waits for it.
+    /// Emits quiescence and processes it. Writes the page at once, since readers following the run wait for it.
     pub(crate) fn quiesce<N: NativeSource>(
         &mut self,
         plan: &Plan,
@@ -128,7 +128,7 @@ impl<O: Out> Runner<'_, O> {
         Ok(end)
     }
 
-    /// Emits the notes of a response, and processes their events unless the run ended in it.
+    /// Emits the notes of a response and processes their events, unless the run ended in it.
     pub(crate) fn report<N: NativeSource>(
         &mut self,
         plan: &Plan,

@@ -1,5 +1,5 @@
-//! The state of a run, which its parts (processing.rt, calling.rt, execution.rt, cycles.rt) change, and what it begins
-//! with.
+//! The state of a run and what it begins with. The parts of the run (processing.rt, calling.rt, execution.rt,
+//! cycles.rt) change it.
 
 ghost use Rattle.std.specs.Prelude.{◌≡◌, map};
 ghost use Rattle.bb_trace.specs.Roster.{closings_of};
@@ -7,7 +7,7 @@ ghost use Rattle.bb_trace.specs.Roster.{closings_of};
 use bb_agenda::Agenda;
 use bb_trace::{Board, Closed, NativeSource, Roster};
 
-/// What a run begins with: the blackboard in its first state, and the natives that were handed in.
+/// What a run begins with: the blackboard in its first state, and the natives handed in.
 pub struct Start<N: NativeSource> {
     pub board: Board,
     pub roster: Roster<N>,
@@ -21,7 +21,7 @@ pub struct State<N: NativeSource> {
 }
 
 impl<N: NativeSource> State<N> {
-    /// Closes each native, in order, and gives what each said and the blackboard. It takes no memory.
+    /// Closes every native, in order, and returns what each reported and the blackboard. Needs no memory.
     pub fn close(self) -> (Closed, Board)
         ensures closed { result.0 ≡ closings_of (map N.meaning self.roster.natives.items) }
         ensures board { result.1 ≡ self.board }

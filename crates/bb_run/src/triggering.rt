@@ -1,4 +1,4 @@
-//! What an event that triggers a source brings about. Processing (processing.rt) calls it.
+//! What an event that triggers a source does. processing.rt calls it.
 
 ghost use Rattle.std.specs.Prelude.{◌≡◌, IfOk, None};
 ghost use Rattle.bb_run.specs.Asking.{asking, entry_of};
@@ -15,7 +15,7 @@ use bb_exec::Answer;
 use bb_trace::{End, Event, NativeSource, Note, Question};
 use std::alloc::AllocError;
 
-/// Gives the source at a place an activation for an event, with this base.
+/// Gives the source at a place an activation for an event, with this base. The run is over if the agenda is full.
 pub(crate) fn activate<N: NativeSource>(
     event: Event,
     place: u16,
@@ -42,7 +42,8 @@ pub(crate) fn activate<N: NativeSource>(
     }
 }
 
-/// Asks the requirement of the source at a place whether an event gives it an activation.
+/// Asks the requirement of the source at a place whether an event gives it an activation. Any answer but a rating
+/// declines.
 pub(crate) fn require<N: NativeSource>(
     code: &Question,
     event: Event,

@@ -1,5 +1,5 @@
-//! A whole run of the blackboard machine, from its start to its finish. `run_texts` calls `run`, and who wants the
-//! blackboard that is left (bb_shell) `run_to_end`.
+//! A whole run of the blackboard machine, from its start to its finish. `run_texts` calls `run`; bb_shell calls
+//! `run_to_end` when it needs the blackboard that is left.
 
 ghost use Rattle.std.specs.Prelude.{◌≡◌, [], All, Some, IfOk, IfSome, IsSomeAnd, false, map};
 ghost use Rattle.std.specs.Io.KnownBytes.{Appends};
@@ -26,7 +26,7 @@ use bb_trace::{Board, End, Halt, NativeSource, Out, Page};
 use std::alloc::{AllocError, Global};
 
 impl<O: Out> Runner<'_, O> {
-    /// Emits what the creation of the first units noted, and processes its events.
+    /// Emits what the creation of the initial units noted, and processes its events.
     pub fn begin<N: NativeSource>(
         &mut self,
         plan: &Plan,
@@ -46,7 +46,7 @@ impl<O: Out> Runner<'_, O> {
         self.report(plan, &notes, None, state)
     }
 
-    // Makes the whole run but for its last segment.
+    // Makes the whole run except for its last segment.
     fn run_unfinished<N: NativeSource>(
         &mut self,
         plan: &Plan,
@@ -70,8 +70,8 @@ impl<O: Out> Runner<'_, O> {
         self.make_cycles(plan, &mut made, limit, state)
     }
 
-    // Makes the whole run, and writes all of its text. Each native is closed, whatever comes of it, and the blackboard is
-    // what is left.
+    // Makes the whole run and writes all of its text. Every native is closed, also if the run is cut short; returns the
+    // end and the blackboard that is left.
     fn make_run<N: NativeSource>(
         &mut self,
         plan: &Plan,
@@ -98,8 +98,8 @@ impl<O: Out> Runner<'_, O> {
         (self.end_by(plan, made, closed), board)
     }
 
-    /// Ends a run after `made` cycles, which came to this end or to none yet: then it first comes to rest, or to its
-    /// limit. Each native is closed, whatever comes of it, and the blackboard is what is left.
+    /// Ends a run after `made` cycles. If it has no end yet, it first comes to rest, or to its limit. Every native is
+    /// closed, also if the run is cut short; returns the end and the blackboard that is left.
     pub fn finish<N: NativeSource>(
         &mut self,
         plan: &Plan,
@@ -124,7 +124,7 @@ impl<O: Out> Runner<'_, O> {
         (self.end_by(plan, settled, closed), board)
     }
 
-    // Has a run come to rest, or to its limit, where it came to no end.
+    // Lets a run come to rest, or to its limit, if it has no end yet.
     fn settle<N: NativeSource>(
         &mut self,
         plan: &Plan,
@@ -148,12 +148,12 @@ impl<O: Out> Runner<'_, O> {
     }
 }
 
-// The agenda that a run begins with: nothing is pending, and it was told of the foci that the blackboard has.
+// The agenda that a run begins with: nothing is pending, and it knows the foci of the blackboard.
 fn first_agenda(alloc: Global, plan: &Plan, board: &Board) -> Result<Agenda, AllocError>
     ensures agenda { IfOk result (λ agenda. agenda ≡ first_agenda plan.now board.now) }
     ensures may { IfOk result (λ _. MayKnow plan.now board.now) }
 {
-    // For the proof: the numbers of the live units were given out.
+    // For the proof: the numbers of live units were given out.
     board.fits();
     let sources = rated_sources(alloc, plan.sources())?;
     let mut agenda = Agenda::new(alloc, plan.shared_schema()?, sources);
@@ -161,8 +161,8 @@ fn first_agenda(alloc: Global, plan: &Plan, board: &Board) -> Result<Agenda, All
     Ok(agenda)
 }
 
-/// The state that a run begins with, and the facts by which it may. Where memory runs out each native is closed, in
-/// order, and the blackboard is dropped.
+/// Creates the state that a run begins with; the contract has the facts that let it begin. If memory runs out, every
+/// native is closed, in order, and the blackboard is dropped.
 pub fn first_state<N: NativeSource>(
     alloc: Global,
     plan: &Plan,
@@ -188,7 +188,7 @@ pub fn first_state<N: NativeSource>(
     }
 }
 
-// Makes the whole run, writes all of its text, and gives its end and the blackboard that it leaves.
+// Makes the whole run and writes all of its text; returns its end and the blackboard that it leaves.
 fn write_run<N: NativeSource, O: Out>(
     alloc: Global,
     plan: &Plan,
@@ -219,7 +219,7 @@ fn write_run<N: NativeSource, O: Out>(
     }
 }
 
-/// Runs a blackboard from its first state as `run` does, and gives how the run ended and the blackboard that it leaves.
+/// Runs a blackboard from its first state as `run` does; returns how the run ended and the blackboard that it leaves.
 /// `Memory`: memory ran out. `Write`: the output failed.
 pub fn run_to_end<N: NativeSource, O: Out>(
     alloc: Global,
@@ -240,10 +240,10 @@ pub fn run_to_end<N: NativeSource, O: Out>(
         (run plan.now start.board (map N.meaning start.roster.natives.items) limit).emitted result }
     ensures failed { O.has_failed out.new ≡ stopped_by_write result }
 {
-    // For the proof: what holds of every schema, plan and blackboard.
+    // For the proof: the invariants of the schema and the plan.
     plan.schema().fits();
     let _ = plan.sources();
-    // For the proof: what holds of the blackboard.
+    // For the proof: the invariant of the blackboard.
     start.board.fits();
     match write_run(alloc, plan, start, u64::from(limit), out) {
         Ok((end, board)) => Ok((Finish::of(end), board)),
@@ -251,10 +251,10 @@ pub fn run_to_end<N: NativeSource, O: Out>(
     }
 }
 
-/// Runs a blackboard from its first state with the natives that were handed in, at most `limit` cycles, and writes the
-/// trace. At its end each native is closed once, in order, also if the run was cut short. `Memory`: memory ran out.
-/// `Write`: the output failed. The blackboard is one of the plan's schema, and the sources were made under it, of codes
-/// that the verifier accepted under it; each has a code for its act, or there is a native of its name. So no execution
+/// Runs a blackboard from its first state with the natives handed in, for at most `limit` cycles, and writes the trace.
+/// At the end every native is closed once, in order, also if the run was cut short. `Memory`: memory ran out. `Write`:
+/// the output failed. The blackboard has the plan's schema, and the sources were made under it, from codes that the
+/// verifier accepted under it; each source has a code for its act, or there is a native of its name. So no execution
 /// can get stuck, and no native is due at the end.
 pub fn run<N: NativeSource, O: Out>(
     alloc: Global,

@@ -1,12 +1,12 @@
--- what each move of a held run emits, and where the run stands after it
+-- what each move of a held run emits, and the run's state after it
 pub mod Moves
--- what it comes to that a native is outside
+-- natives outside the run
 pub mod Outside
--- what the code of a move did, against the definitions
+-- what the code of a move did, compared with the definitions
 pub mod Making
 -- for models only
 pub mod proving
--- of bb_run: the run, what a part of it emits, and what an event brings about
+-- of bb_run: the run, what a part of it emits, and the response to an event
 pub use Rattle.bb_run.specs.Emission
 pub use Rattle.bb_run.specs.Emitting
 pub use Rattle.bb_run.specs.Note
@@ -17,12 +17,12 @@ pub use Rattle.bb_run.specs.Seen
 pub use Rattle.bb_run.specs.Causes
 pub use Rattle.bb_run.specs.Order
 pub use Rattle.bb_run.specs.Unstuck
--- of bb_run: how a run ends, and what was written where it was cut short
+-- of bb_run: how a run ends, and what was written if it was cut short
 pub use Rattle.bb_run.specs.End
 pub use Rattle.bb_run.specs.Finish
 pub use Rattle.bb_run.specs.Halt
 pub use Rattle.bb_run.specs.declared.finish.Finish as Finishes
--- of bb_trace: what a run goes by, and the text of a trace
+-- of bb_trace: the plan of a run, and the text of a trace
 pub use Rattle.bb_run.specs.Limits
 pub use Rattle.bb_run.specs.Page
 pub use Rattle.bb_run.specs.Plan

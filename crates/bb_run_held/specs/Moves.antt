@@ -1,4 +1,4 @@
--- A run that its host holds: what each of its moves emits, and where the run stands after it.
+-- A run that its host holds: what each of its moves emits, and the run's state after it.
 use Rattle.std.specs.Prelude.{ℕ, ◌+◌, Bool, true, false, List, [], ◌∷◌, ◌++◌, Option, Some, None}
 use Rattle.bb_run.specs.Activation.{Activation}
 use Rattle.bb_run.specs.Ask.{Ask}
@@ -16,30 +16,30 @@ use Rattle.bb_run.specs.Turns.{answering, choices_of, posting, settled, turn}
 use Rattle.bb_run_held.specs.declared.pause.Pause.{Pause}
 use Rattle.bb_run_held.specs.declared.pause.Pause.TheVariants.{Going, Resting, Due, Over}
 
--- what a host has a run do
+-- what a host lets a run do
 pub data Move : Type 0 where
-  -- a cycle, or quiescence where nothing can be chosen
+  -- a cycle, or quiescence if nothing can be chosen
   one_turn : Move
-  -- at most so many cycles more, and quiescence after them where nothing can be chosen then
+  -- up to `cycles` more cycles, then quiescence if nothing can be chosen
   advance : (cycles : ℕ) → Move
-  -- what happened in the world outside
+  -- asks about what happened outside
   post : List Ask → Move
-  -- what the native asks that is due
+  -- the asks of the native that is due
   answer : List Ask → Move
 
--- where a run stands between two moves
+-- the state of a run between two moves
 pub record Standing : Type 0 where
   pub state : State
-  -- the number of cycles that were made
+  -- the number of cycles made
   pub made : ℕ
   pub pause : Pause
 
--- what a move emits, and where the run stands after it
+-- what a move emits, and the run's state after it
 pub record Moved : Type 0 where
   pub emitted : List (List Note)
   pub standing : Standing
 
--- how a run stands after a part of it that ended in this way
+-- how a run pauses after a part of it that ended in this way
 abbrev pub pause_by : Option End → Pause
 pause_by None = Going
 pause_by (Some ends.Limit) = Going
@@ -47,11 +47,11 @@ pause_by (Some ends.Quiescence) = Resting
 pause_by (Some (ends.Due a)) = Due a
 pause_by (Some end) = Over end
 
--- after a stretch, with so many cycles made
+-- after a stretch, with this number of cycles made
 abbrev pub after : (made : ℕ) → Stretch → Moved
 after made p = record { emitted = p.emitted; standing = record { state = p.state; made = made; pause = pause_by p.end } }
 
--- a cycle more was made where something could be chosen
+-- the number of cycles after a turn: one more if something could be chosen
 abbrev pub made_by : (made : ℕ) → Option Activation → ℕ
 made_by made None = made
 made_by made (Some a) = made + 1
@@ -62,14 +62,14 @@ takes_posts (Due a) = false
 takes_posts (Over end) = false
 takes_posts _ = true
 
--- a native is due; no run is over in that way
+-- a native is due; no run is over because of that
 abbrev pub is_due : Pause → Bool
 is_due (Due a) = true
 is_due (Over (ends.Due a)) = true
 is_due _ = false
 
--- the first segment that a post emits: that something was posted, what the asks bring about in order, and their number,
--- unless the blackboard became full
+-- the first segment that a post emits: the note that asks follow, what the asks cause, in order, and their number,
+-- unless the blackboard is full
 abbrev pub post_segment : List Ask → State → List Note
 post_segment asks s = Posted ∷ (asked PostEnded asks s).emitted
 
@@ -77,11 +77,11 @@ post_segment asks s = Posted ∷ (asked PostEnded asks s).emitted
 abbrev pub unmoved : Standing → Moved
 unmoved t = record { emitted = []; standing = t }
 
--- after cycles, which are counted on
+-- after cycles, which are counted
 abbrev pub advanced : Plan → (made count : ℕ) → State → Moved
 advanced plan made count s = let p = cycles plan made count s in after (made + choices_of p) p
 
--- a move of a run that stands so: one that can't be made there changes nothing
+-- a move of a run with this pause; a move that can't be made there changes nothing
 abbrev pub moved_in : Plan → Pause → Move → Standing → Moved
 moved_in plan Going one_turn t = after (made_by t.made (choice plan t.state)) (turn plan t.made t.state)
 moved_in plan Going (advance n) t = advanced plan t.made n t.state
@@ -93,7 +93,7 @@ moved_in plan _ _ t = unmoved t
 abbrev pub moved : Plan → Move → Standing → Moved
 moved plan m t = moved_in plan t.pause m t
 
--- moves one after another
+-- moves in sequence
 unfoldable pub played : Plan → List Move → Standing → Moved
 played plan [] t = unmoved t
 played plan (m ∷ ms) t =
@@ -101,11 +101,11 @@ played plan (m ∷ ms) t =
     let q = played plan ms p.standing in
     record { emitted = p.emitted ++ q.emitted; standing = q.standing }
 
--- the start of a run: what their creation noted is emitted, and their events are processed
+-- the start of a run: what the creation of the initial units noted is emitted, and its events are processed
 abbrev pub started : Plan → Blackboard → List Native → Moved
 started plan board natives = after 0 (start plan board natives)
 
--- the end that a run came to, if it came to one; the definitions end one with a native due there
+-- the end of a run, if it has one; in the definitions, a run with a native due ends there
 abbrev pub ended : Pause → Option End
 ended Going = None
 ended Resting = Some ends.Quiescence
@@ -116,7 +116,7 @@ ended (Over end) = Some end
 abbrev pub finished : Plan → Standing → Stretch
 finished plan t = with_finish (settled plan t.made (ended t.pause) t.state)
 
--- a run that its host begins, gives one move of so many cycles, and ends
+-- a run that its host begins, advances once by `limit` cycles, and ends
 abbrev pub alone : Plan → Blackboard → List Native → (limit : ℕ) → Stretch
 alone plan board natives limit =
     let first = started plan board natives in

@@ -1,4 +1,4 @@
--- What it comes to that a native is outside: a turn after which it is due, and the answer for it.
+-- Natives outside the run: a turn after which one is due, and the answer for it.
 use Rattle.std.specs.Prelude.{◌≡◌, ℕ, List, Some, slice_get}
 use Rattle.bb_run.specs.Activation.{Activation}
 use Rattle.bb_run.specs.Ask.{Ask}
@@ -15,7 +15,7 @@ use Rattle.bb_run_held.specs.Moves.{Moved, Standing}
 abbrev pub with_inside : List Native → Standing → Standing
 with_inside natives t = record t { state = with_natives t.state natives }
 
--- of these natives one has the name of the activation's source, and called in this state it asks this
+-- one of these natives has the name of the activation's source, and asks this if it is called in this state
 pub record AsksInside (plan : Plan) (natives : List Native) (asks : List Ask) (a : Activation) (s : State) : Type 0 where
   pub source : Source
   pub source_is : slice_get plan.sources a.source ≡ Some source
@@ -23,7 +23,7 @@ pub record AsksInside (plan : Plan) (natives : List Native) (asks : List Ask) (a
   pub there : place_of natives source.name ≡ Some place
   pub same : asks_at natives place a.unit (sight_of s.board) ≡ asks
 
--- moves emit the same notes as others, and leave the run as they do, but for its natives
+-- both moves emit the same notes, and leave the run in the same state, except for its natives
 pub record ComesToSame (p q : Moved) : Type 0 where
   pub notes : all_of p.emitted ≡ all_of q.emitted
   pub board : p.standing.state.board ≡ q.standing.state.board

@@ -1,2 +1,2 @@
--- of bb_trace: how a plan is stored
+-- of bb_trace: how a plan is encoded
 pub use Rattle.bb_run.specs.proving.Codes

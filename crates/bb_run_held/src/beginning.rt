@@ -1,4 +1,4 @@
-//! How a host begins a run that it holds: from a shell, or from one whose host answers for natives.
+//! Begins a run that the host holds: from a shell, or from a shell whose host answers for natives.
 
 ghost use Rattle.std.specs.Prelude.{◌≡◌, None, false, IfOk, map};
 ghost use Rattle.bb_run.specs.Page.{stopped_by_write};
@@ -12,9 +12,9 @@ use bb_shell::{HostedShell, Shell};
 use std::alloc::Global;
 
 impl<N: NativeSource> Running<N> {
-    /// Begins a run of a shell that the host holds: emits what the creation of the first units noted, and processes its
-    /// events. `Memory`: memory ran out. `Write`: the output failed. Then each native is closed, in order, and the
-    /// blackboard is dropped.
+    /// Begins a run of a shell that the host holds: emits what the creation of the initial units noted, and processes
+    /// its events. `Memory`: memory ran out. `Write`: the output failed. After an error every native is closed, in
+    /// order, and the blackboard is dropped.
     pub fn of_shell<O: Out>(alloc: Global, shell: Shell<N>, out: &mut O) -> Result<Running<N>, Halt>
         requires open { O.has_failed out.old ≡ false }
         ensures begun { Begins shell.plan (started shell.plan shell.board (map N.meaning shell.roster.natives.items))
@@ -26,7 +26,7 @@ impl<N: NativeSource> Running<N> {
         Running::start(alloc, plan, Start { board, roster }, out)
     }
 
-    /// Begins a run of a shell whose host answers for natives, as `of_shell` does of one that has them all.
+    /// Begins a run of a shell whose host answers for natives, as `of_shell` does for one with all its natives.
     pub fn of_hosted<O: Out>(
         alloc: Global,
         shell: HostedShell<N>,

@@ -1,10 +1,10 @@
-//! A run that its host holds. It makes some of the run and comes back; then the host can look at the blackboard, say what
-//! happened in the world outside, go on, or end it.
+//! A run that its host holds. It makes a part of the run and returns; then the host can read the blackboard, post what
+//! happened outside, continue the run, or end it.
 //!
-//! - In: a shell (bb_shell), moves one after another, and an output for each.
-//! - Out: how the run stands after each move, with its trace written; at the end the blackboard.
-//! - Callers rely on: each move emits what the abstract blackboard machine emits there (`specs/Moves`), and where a host
-//!   comes back from `advance` shows nowhere in the trace.
+//! - In: a shell (bb_shell), moves in sequence, and an output for each.
+//! - Out: the state of the run after each move, with its trace written; at the end, the blackboard.
+//! - Callers rely on: each move emits what the abstract blackboard machine emits there (`specs/Moves`), and the trace
+//!   does not show where `advance` returned to the host.
 #![tactic(auto)]
 
 mod beginning;

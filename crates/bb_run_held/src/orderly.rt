@@ -13,16 +13,16 @@ ghost use Rattle.bb_run_held.specs.Moves.{post, post_segment, takes_posts};
 ghost use Rattle.bb_run_held.specs.Outside.{AsksInside, ComesToSame, with_inside};
 ghost use Rattle.bb_run_held.specs.declared.pause.Pause.TheVariants.{Due, Going};
 
-/// What the moves of any held run are like, whatever the plan, the blackboard and the natives.
+/// States what the moves of any held run are like, for any plan, blackboard and natives.
 ///
-/// - `apart`: where `advance` comes back shows nowhere: so many cycles more, and then others, emit what all of them emit
-///   in one move, and leave the run where that leaves it.
-/// - `turns`: one move of many cycles emits what some number of turns emit, and leaves the run where they leave it.
-/// - `alone`: a run is a start, one move of as many cycles as its limit, and a finish.
-/// - `posts`: what is posted stands in one segment, the first of its move: each ask, in order, and what it brings about
-///   on the blackboard that the move found.
+/// - `apart`: where `advance` returns does not show. An `advance` of m cycles and then one of n emit what one of m + n
+///   cycles emits, and leave the run as it does.
+/// - `turns`: one `advance` emits what some number of turns emit, and leaves the run as they do.
+/// - `alone`: a run is a start, one `advance` of as many cycles as its limit, and a finish.
+/// - `posts`: a post is one segment, the first of its move: each ask, in order, and its effect on the blackboard that
+///   the move found.
 /// - `outside`: a turn after which a native is due, and then the answer for it, emit the notes of the turn in which a
-///   native inside asks the same, and leave the run as that turn does, but for its natives.
+///   native inside asks the same, and leave the run as that turn does, except for its natives.
 pub fn moves_are_orderly()
     ensures apart { (plan : Plan) (t : Standing) (m n : ℕ) →
         played plan (advance m ∷ advance n ∷ []) t ≡ moved plan (advance (m + n)) t }

@@ -1,16 +1,16 @@
-//! How a run stands between two moves of its host.
+//! The state of a run between two moves of its host.
 
 ghost use Rattle.std.specs.Prelude.{◌≡◌};
 ghost use Rattle.bb_run_held.specs.Moves.{ended, is_due, pause_by};
 
 use bb_run::{Activation, End, EndKind};
 
-/// How a run stands between two moves of its host.
+/// The state of a run between two moves of its host.
 #[derive(Clone, Copy, Debug)]
 pub enum Pause {
-    /// The run goes on: something can be chosen, or a turn emits quiescence.
+    /// The run can continue: something can be chosen, or a turn emits quiescence.
     Going,
-    /// Quiescence was emitted, and it changed nothing: only asks from outside can have the run go on.
+    /// Quiescence was emitted and changed nothing: only asks from outside can continue the run.
     Resting,
     /// A native is due: the source of this activation acts by one that was not handed in. The host answers for it.
     Due(Activation),
@@ -19,7 +19,7 @@ pub enum Pause {
 }
 
 impl Pause {
-    /// Whether a native is due, so that the run can't be finished.
+    /// Returns whether a native is due, in which case the run can't be finished.
     pub fn is_due(&self) -> bool
         ensures { result ≡ is_due self.now }
     {
@@ -31,7 +31,7 @@ impl Pause {
     }
 }
 
-/// How a run stands after a part of it that ended in this way, if it ended.
+/// Returns the state of a run after a part that ended in this way, if it ended.
 pub(crate) fn pause_by(end: Option<End>) -> Pause
     ensures { result ≡ pause_by end }
 {
@@ -46,7 +46,7 @@ pub(crate) fn pause_by(end: Option<End>) -> Pause
     }
 }
 
-/// The end that a run came to, if it came to one.
+/// Returns the end of a run, if it has one.
 pub(crate) fn ended(pause: &Pause) -> Option<End>
     ensures { result ≡ ended pause.now }
 {

@@ -27,9 +27,10 @@ use bb_run::{
 };
 use std::alloc::Global;
 
-/// A run between two moves of its host: its plan, its blackboard and agenda, and the natives that were handed in. It
-/// can't be dropped, as the natives have to be closed: `finish` and `close` spend it. After a move that was cut short,
-/// for want of memory or as the output failed, no other can be made, and the blackboard is one in the midst of that move.
+/// A run between two moves of its host: its plan, its blackboard and agenda, and the natives handed in. It can't be
+/// dropped, because the natives must be closed: `finish` and `close` consume it. After a move was cut short, because
+/// memory ran out or the output failed, no other move can be made, and the blackboard is one from the middle of that
+/// move.
 pub struct Running<N: NativeSource> {
     alloc: Global,
     plan: Plan,
@@ -40,7 +41,7 @@ pub struct Running<N: NativeSource> {
     ghost lasts: { cut ≡ None → Lasts plan (seen N.meaning state) },
 }
 
-// Makes the cycle of this number and counts it, or emits quiescence where nothing can be chosen.
+// Makes the cycle with this number and counts it, or emits quiescence if nothing can be chosen.
 fn take_turn<N: NativeSource, O: Out>(
     runner: &mut Runner<'_, O>,
     plan: &Plan,
@@ -68,11 +69,11 @@ fn take_turn<N: NativeSource, O: Out>(
 }
 
 impl<N: NativeSource> Running<N> {
-    /// Begins a run from a blackboard's first state with the natives that were handed in: emits what the creation of the
-    /// first units noted, and processes its events. At an error each native is closed, and the blackboard is dropped.
-    /// The blackboard is one of the plan's schema, and the sources were made under it, of codes that the verifier
-    /// accepted under it. Of a source with neither a code for its act nor a native of its name the native is due when
-    /// it is to act, and the host answers for it.
+    /// Begins a run from the first state of a blackboard with the natives handed in: emits what the creation of the
+    /// initial units noted, and processes its events. `Memory`: memory ran out. `Write`: the output failed. After an
+    /// error every native is closed, and the blackboard is dropped. The blackboard has the plan's schema, and the
+    /// sources were made under it, from codes that the verifier accepted under it. If a source has neither a code for
+    /// its act nor a native of its name, the native is due when the source is to act, and the host answers for it.
     pub fn start<O: Out>(
         alloc: Global,
         plan: Plan,
@@ -87,7 +88,7 @@ impl<N: NativeSource> Running<N> {
         ensures kept { IfOk result (λ r. (r.plan ≡ plan) × (r.cut ≡ None)) }
         ensures failed { O.has_failed out.new ≡ stopped_by_write result }
     {
-        // For the proof: what holds of every schema, plan and blackboard.
+        // For the proof: the invariants of the schema, the plan and the blackboard.
         plan.schema().fits();
         let _ = plan.sources();
         start.board.fits();
@@ -116,8 +117,8 @@ impl<N: NativeSource> Running<N> {
         }
     }
 
-    /// Makes a cycle, or emits quiescence where nothing can be chosen. Where the run does not go on, nothing happens.
-    /// `Memory`, `Write`: the run is cut short in it.
+    /// Makes a cycle, or emits quiescence if nothing can be chosen. Does nothing if the run can't continue. `Memory`,
+    /// `Write`: the run is cut short.
     pub fn turn<O: Out>(&mut self, out: &mut O) -> Result<Pause, Halt>
         requires open { O.has_failed out.old ≡ false }
         requires whole { self.old.cut ≡ None }
@@ -136,7 +137,7 @@ impl<N: NativeSource> Running<N> {
         }
     }
 
-    // Makes a cycle, or emits quiescence, where the run goes on.
+    // Makes a cycle, or emits quiescence, in a run that can continue.
     fn turn_on<O: Out>(&mut self, out: &mut O) -> Result<Pause, Halt>
         requires open { O.has_failed out.old ≡ false }
         requires whole { self.old.cut ≡ None }
@@ -148,11 +149,11 @@ impl<N: NativeSource> Running<N> {
         ensures kept { (self.new.plan ≡ self.old.plan) × (self.new.cut ≡ halt_of result) }
         ensures failed { O.has_failed out.new ≡ stopped_by_write result }
     {
-        // For the proof: what holds of every schema, plan and blackboard.
+        // For the proof: the invariants of the schema, the plan and the blackboard.
         self.plan.schema().fits();
         let _ = self.plan.sources();
         self.state.board.fits();
-        // A cycle takes an activation, and those are numbered below 2^63, so this is never so.
+        // Never fails: a cycle takes an activation, and activations are numbered below 2^63.
         let Some(number) = self.made.checked_add(1) else {
             self.cut = Some(Halt::Memory);
             return Err(Halt::Memory);
@@ -181,8 +182,8 @@ impl<N: NativeSource> Running<N> {
         }
     }
 
-    /// Makes at most so many cycles more, and emits quiescence after them where nothing can be chosen then. Where the
-    /// run does not go on, nothing happens. `Memory`, `Write`: the run is cut short in it.
+    /// Makes up to `cycles` more cycles, then emits quiescence if nothing can be chosen. Does nothing if the run can't
+    /// continue. `Memory`, `Write`: the run is cut short.
     pub fn advance<O: Out>(&mut self, cycles: u32, out: &mut O) -> Result<Pause, Halt>
         requires open { O.has_failed out.old ≡ false }
         requires whole { self.old.cut ≡ None }
@@ -201,7 +202,7 @@ impl<N: NativeSource> Running<N> {
         }
     }
 
-    // Makes at most so many cycles more, where the run goes on.
+    // Makes up to `count` more cycles of a run that can continue.
     fn advance_on<O: Out>(&mut self, count: u32, out: &mut O) -> Result<Pause, Halt>
         requires open { O.has_failed out.old ≡ false }
         requires whole { self.old.cut ≡ None }
@@ -212,11 +213,11 @@ impl<N: NativeSource> Running<N> {
         ensures kept { (self.new.plan ≡ self.old.plan) × (self.new.cut ≡ halt_of result) }
         ensures failed { O.has_failed out.new ≡ stopped_by_write result }
     {
-        // For the proof: what holds of every schema, plan and blackboard.
+        // For the proof: the invariants of the schema, the plan and the blackboard.
         self.plan.schema().fits();
         let _ = self.plan.sources();
         self.state.board.fits();
-        // As for a turn, this is never so.
+        // As in a turn, never fails.
         let Some(last) = self.made.checked_add(u64::from(count)) else {
             self.cut = Some(Halt::Memory);
             return Err(Halt::Memory);
@@ -239,9 +240,10 @@ impl<N: NativeSource> Running<N> {
         }
     }
 
-    /// Ends the run: where it still goes on it first comes to rest, or to its limit. Emits its end, and what each native
-    /// says at its close, and gives the blackboard. A run that was cut short can't be finished, only closed; nor can
-    /// one with a native due, which can be answered first, or closed.
+    /// Ends the run; if it can still continue, it first comes to rest, or to its limit. Emits its end and what every
+    /// native reports at its close, and returns the blackboard. `Memory`: memory ran out. `Write`: the output failed. A
+    /// run that was cut short can't be finished, only closed. Nor can a run with a native due, which can be answered
+    /// first, or closed.
     pub fn finish<O: Out>(self, out: &mut O) -> (Finish, Board)
         requires open { O.has_failed out.old ≡ false }
         requires whole { self.cut ≡ None }
@@ -265,7 +267,7 @@ impl<N: NativeSource> Running<N> {
             pause,
             cut: _cut,
         } = self;
-        // For the proof: what holds of every schema, plan and blackboard.
+        // For the proof: the invariants of the schema, the plan and the blackboard.
         plan.schema().fits();
         let _ = plan.sources();
         state.board.fits();
@@ -282,8 +284,8 @@ impl<N: NativeSource> Running<N> {
         }
     }
 
-    /// Closes each native once, in order, and gives what each said, and the blackboard. It writes nothing, so the trace
-    /// has no finish, and it takes no memory.
+    /// Closes every native once, in order; returns what each reported and the blackboard. Writes nothing, so the trace
+    /// has no finish, and needs no memory.
     pub fn close(self) -> (Closed, Board)
         ensures closed { result.0 ≡ closings_of (map N.meaning self.state.roster.natives.items) }
         ensures board { result.1 ≡ self.state.board }
@@ -300,54 +302,54 @@ impl<N: NativeSource> Running<N> {
         state.close()
     }
 
-    /// What can be seen of the blackboard, also of a run that was cut short.
+    /// Returns a view of the blackboard, also of a run that was cut short.
     pub fn view(&self) -> View<'_>
         ensures { result ≡ sight_of self.now.state.board }
     {
         View::new(&self.state.board)
     }
 
-    /// The sources and the schema, and the floor.
+    /// Returns the plan: the sources, the schema and the floor.
     pub fn plan(&self) -> &Plan
         ensures { result.now ≡ self.now.plan }
     {
         &self.plan
     }
 
-    /// The activations that wait, and what became of those before.
+    /// Returns the agenda: the pending activations, and what became of the earlier ones.
     pub fn agenda(&self) -> &Agenda
         ensures { result.now ≡ self.now.state.agenda }
     {
         &self.state.agenda
     }
 
-    /// Whether the run was cut short, so that no other move can be made.
+    /// Returns whether the run was cut short, so that no other move can be made.
     pub fn was_cut(&self) -> bool
         ensures { result ≡ is_some self.now.cut }
     {
         self.cut.is_some()
     }
 
-    /// How the run stands.
+    /// Returns the state of the run.
     pub fn pause(&self) -> Pause
         ensures { result ≡ self.now.pause }
     {
         self.pause
     }
 
-    /// The number of cycles that were made.
+    /// Returns the number of cycles made.
     pub fn made(&self) -> u64
         ensures { result ≡ self.now.made }
     {
         self.made
     }
 
-    /// What a turn would choose, if anything can be chosen.
+    /// Returns what a turn would choose, if anything can be chosen.
     pub fn next(&self) -> Option<Activation>
         requires whole { self.now.cut ≡ None }
         ensures { result ≡ choice self.now.plan (seen N.meaning self.now.state) }
     {
-        // For the proof: what holds of every schema, plan and blackboard.
+        // For the proof: the invariants of the schema, the plan and the blackboard.
         self.plan.schema().fits();
         let _ = self.plan.sources();
         self.state.board.fits();

@@ -3,7 +3,7 @@ use Rattle.std.proofs.Common.{◌≡◌, ℕ, zero, suc, ◌+◌, ◌<◌, List,
 use Rattle.std.specs.List.{fold, range_with_len}
 use Rattle.std.proofs.lemmas.List.Sums.{fold-append}
 use Rattle.bb_agenda.specs.Agenda.{Agenda}
-use Rattle.bb_agenda.specs.Foci.{Foci}
+use Rattle.bb_agenda.specs.focusing.Foci.{Foci}
 use Rattle.bb_run_plan.specs.Foci.{with_foci}
 
 -- ---- a fold, one step after another

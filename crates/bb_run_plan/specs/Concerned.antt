@@ -1,5 +1,5 @@
--- Which sources an event concerns by its kind: those that have a clause of that kind, whatever the classes. No other
--- source responds to it.
+-- Which sources an event concerns, by its kind: those with a clause of that kind, of any class. No other source
+-- responds to it.
 use Rattle.std.specs.Prelude.{ℕ, ◌+◌, Bool, true, false, ◌||◌, List, [], ◌∷◌, Option, Some, None, if◌then◌else◌}
 use Rattle.std.specs.List.{list_any}
 use Rattle.bb_board.specs.Event.{Event}

@@ -1,8 +1,8 @@
--- what a run goes by
+-- the plan of a run
 pub mod Plan
 -- which sources an event concerns by its kind
 pub mod Concerned
--- the foci of a blackboard, and what the agenda is told of them
+-- the foci of a blackboard, and how the agenda learns of them
 pub mod Foci
 -- for proofs only
 pub mod proving

@@ -1,4 +1,4 @@
--- What a run goes by.
+-- The plan of a run.
 use Rattle.std.specs.Prelude.{ℤ, List}
 use Rattle.bb_schema.specs.Schema.{Schema}
 use Rattle.bb_rules.specs.Parts.{Source}
@@ -7,5 +7,5 @@ pub record Plan : Type 0 where
   pub schema : Schema
   -- the sources, in order
   pub sources : List Source
-  -- the least rating that can be chosen
+  -- the minimum rating that can be chosen
   pub floor : ℤ

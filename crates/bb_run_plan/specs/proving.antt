@@ -1,4 +1,4 @@
--- how sources and a plan are stored
+-- how sources and a plan are encoded
 pub mod Codes
 -- how a plan finds the sources that an event concerns
 pub mod Concerned

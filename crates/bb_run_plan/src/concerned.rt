@@ -1,4 +1,4 @@
-//! Which sources an event concerns by its kind. A plan finds them, and a run (bb_run) asks no others.
+//! Which sources an event concerns, by its kind. A plan keeps them, and a run (bb_run) asks no others.
 
 ghost use Rattle.std.specs.Prelude.{◌≡◌, ◌≤◌, [], IfOk, OnOk, length};
 ghost use Rattle.std.specs.Option.{option_map_or};
@@ -13,13 +13,13 @@ use bb_board::Event;
 use bb_rules::{Clause, KindIndex, Reaction, Source};
 use std::alloc::{AllocError, Global};
 
-/// The places of the sources that have a clause of the kind of an event, in order, for each kind.
+/// For each kind of event, the places of the sources that have a clause of that kind, in order.
 pub(crate) struct Concerned {
     changes: KindIndex,
     quiescence: IdSet,
 }
 
-// By hand, so that a proof meets one call where it is dropped, and not each of its parts.
+// By hand: proofs then meet one call per drop, not one per part.
 impl Drop for Concerned {
     fn drop(self) {
         let Concerned {
@@ -40,7 +40,7 @@ impl Concerned {
         }
     }
 
-    /// The places of the sources that an event concerns, for each event.
+    /// Finds, for every kind of event, the places of the sources that it concerns. The error: out of memory.
     pub(crate) fn of(alloc: Global, sources: &[Source]) -> Result<Concerned, AllocError>
         requires { length sources.now ≤ SOURCE_LIMIT }
         ensures { IfOk result (λ concerned. AreConcerned sources.now concerned) }
@@ -52,7 +52,7 @@ impl Concerned {
         Ok(concerned)
     }
 
-    /// The places that are kept for the kind of an event.
+    /// Returns the places kept for the kind of an event.
     pub(crate) fn by(&self, event: Event) -> &[u16]
         ensures { result.now ≡ places_for self.now event }
     {
@@ -62,7 +62,7 @@ impl Concerned {
         }
     }
 
-    // Adds a place, the last, for the kind that a clause names.
+    // Appends a place for the kind that a clause names.
     fn add_clause(&mut self, place: u16, clause: &Clause) -> Result<(), AllocError>
         ensures { OnOk result ((event : Happened) → places_for self.new event
             ≡ put_if (is_of_kind event clause.now) (places_for self.old event) place) }
@@ -73,7 +73,7 @@ impl Concerned {
         }
     }
 
-    // Adds a place, the last, for quiescence.
+    // Appends a place for quiescence.
     fn add_quiescence(&mut self, place: u16) -> Result<(), AllocError>
         ensures changes { self.new.changes ≡ self.old.changes }
         ensures quiescence { OnOk result (self.new.quiescence ≡ put self.old.quiescence place) }
@@ -84,7 +84,7 @@ impl Concerned {
         self.quiescence.push(place)
     }
 
-    // Adds a place, the last, for each kind that one of these clauses names.
+    // Appends a place for every kind that one of these clauses names.
     fn add_clauses(&mut self, place: u16, clauses: &[Clause]) -> Result<(), AllocError>
         ensures { OnOk result ((event : Happened) → places_for self.new event
             ≡ put_if (any_of_kind event clauses.now) (places_for self.old event) place) }
@@ -95,7 +95,7 @@ impl Concerned {
         Ok(())
     }
 
-    // Adds a place, the last, for each kind that a clause of a reaction names, if there is a reaction.
+    // Appends a place for every kind that a clause of a reaction names, if there is a reaction.
     fn add_reaction(&mut self, place: u16, reaction: &Option<Reaction>) -> Result<(), AllocError>
         ensures { OnOk result ((event : Happened) → places_for self.new event
             ≡ put_if (reaction_of_kind event reaction.now) (places_for self.old event) place) }
@@ -106,7 +106,7 @@ impl Concerned {
         }
     }
 
-    // Adds the place of a source, the last, for each kind that one of its clauses names.
+    // Appends the place of a source for every kind that one of its clauses names.
     fn add_source(&mut self, place: u16, source: &Source) -> Result<(), AllocError>
         ensures { OnOk result ((event : Happened) → places_for self.new event
             ≡ put_if (is_concerned event source.now) (places_for self.old event) place) }

@@ -1,5 +1,5 @@
-//! The foci of the blackboard: units of the built-in class `focus`, and of classes below it. A run (bb_run) tells the
-//! agenda of those that there are when it begins, and then of each unit that the notes of the blackboard name.
+//! The foci of the blackboard: units of the built-in class `focus` and its descendants. A run (bb_run) tells the agenda
+//! all of them when it begins, and then each unit that the notes of the blackboard name.
 
 ghost use Rattle.std.specs.Prelude.{◌≡◌, IfOk, map, option_map};
 ghost use Rattle.bb_board.specs.Units.{value_of};
@@ -63,7 +63,7 @@ fn truth_in(value: Option<&Value>) -> Option<bool>
     }
 }
 
-// Whether a unit is live, and its class descends from `focus`.
+// Whether a unit is live and its class descends from `focus`.
 fn is_focus(board: &Board, unit: UnitId) -> bool
     ensures { result ≡ def.is_focus board.now.schema board.now.world.units unit }
 {
@@ -105,7 +105,7 @@ fn focus_of(board: &Board, unit: UnitId) -> Result<Option<Focus>, AllocError>
     Ok(focus_from(source, area, weight, active))
 }
 
-// Tells the agenda which focus a unit is, or that it is none.
+// Tells the agenda which focus a unit is, or that it is not one.
 fn tell_unit(agenda: &mut Agenda, board: &Board, unit: UnitId) -> Result<(), AllocError>
     ensures { IfOk result (λ _. agenda.new ≡ def.with_foci agenda.old
         (def.told_unit board.now.schema board.now.world.units agenda.old.foci unit)) }
@@ -116,7 +116,7 @@ fn tell_unit(agenda: &mut Agenda, board: &Board, unit: UnitId) -> Result<(), All
     }
 }
 
-// Tells the agenda of the unit that a note names.
+// Tells the agenda about the unit that a note names.
 fn tell_note(agenda: &mut Agenda, board: &Board, note: &BoardNote) -> Result<(), AllocError>
     ensures { IfOk result (λ _. agenda.new ≡ def.with_foci agenda.old
         (def.told_note board.now.schema board.now.world.units agenda.old.foci note.now)) }
@@ -127,8 +127,8 @@ fn tell_note(agenda: &mut Agenda, board: &Board, note: &BoardNote) -> Result<(),
     }
 }
 
-/// Tells the agenda of the units that notes of the blackboard name. The error is out of memory, and the agenda may then
-/// have been told of some.
+/// Tells the agenda about the units that notes of the blackboard name. The error: out of memory; the agenda may then
+/// know about some of them.
 pub fn tell_notes(agenda: &mut Agenda, board: &Board, notes: &[BoardNote]) -> Result<(), AllocError>
     ensures { IfOk result (λ _. agenda.new ≡ def.with_foci agenda.old
         (def.told_notes board.now.schema board.now.world.units notes.now agenda.old.foci)) }
@@ -139,7 +139,7 @@ pub fn tell_notes(agenda: &mut Agenda, board: &Board, notes: &[BoardNote]) -> Re
     Ok(())
 }
 
-/// Tells the agenda of all units that were created on the blackboard, as `tell_notes` does. 0 names no unit.
+/// Tells the agenda about all units ever created on the blackboard, as `tell_notes` does. Number 0 names no unit.
 pub fn tell_all(agenda: &mut Agenda, board: &Board) -> Result<(), AllocError>
     ensures { IfOk result (λ _. agenda.new ≡ def.with_foci agenda.old
         (def.told_all board.now.schema board.now.world.units agenda.old.foci)) }
@@ -150,7 +150,7 @@ pub fn tell_all(agenda: &mut Agenda, board: &Board) -> Result<(), AllocError>
     Ok(())
 }
 
-/// What the agenda knows of sources: their names and classes. The error is out of memory.
+/// Returns what the agenda knows of sources: their names and classes. The error: out of memory.
 pub fn rated_sources(alloc: Global, sources: &[Source]) -> Result<Vec<RatedSource>, AllocError>
     ensures { IfOk result (λ rated. rated.items ≡ map def.rated_source sources.now) }
 {

@@ -1,11 +1,11 @@
-//! What a run goes by: the schema, the sources in their order, the floor, which sources an event concerns, and the foci
+//! The plan of a run: the schema, the sources in order, the floor, and which sources an event concerns. Also the foci
 //! of the blackboard.
 //!
-//! - In: a schema, and sources that were made under it.
-//! - Out: a `Plan`, which finds the sources that an event concerns by its kind. `tell_all` and `tell_notes` tell an
-//!   agenda which foci a blackboard has.
-//! - Callers rely on: each code of a source was accepted, and the sources that a plan names for an event are those that
-//!   have a clause of its kind, in their order.
+//! - In: a schema, and sources made under it.
+//! - Out: a `Plan`, which finds the sources that an event concerns by the event's kind. `tell_all` and `tell_notes`
+//!   tell an agenda which foci a blackboard has.
+//! - Callers rely on: every code of a source was accepted, and the sources that a plan names for an event are those
+//!   with a clause of its kind, in order.
 //! - Cases: `runs` and `model-runs`.
 #![tactic(auto)]
 

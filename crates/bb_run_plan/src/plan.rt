@@ -1,4 +1,4 @@
-//! What a run goes by. The meaning of an input (bb_shell) has it, and every part of the run reads it.
+//! The plan of a run. The meaning of an input (bb_shell) has it, and every part of the run reads it.
 
 ghost use Rattle.std.specs.Prelude.{◌≡◌, ◌≤◌, All, IfOk, length};
 ghost use Rattle.bb_rules.specs.Law.{HasSoundCodes};
@@ -12,11 +12,11 @@ use bb_schema::Schema;
 use std::alloc::{AllocError, Global};
 use std::marker::Model;
 
-/// The greatest number of sources.
+/// The maximum number of sources.
 pub const SOURCE_LIMIT: usize = 256;
 
-/// What a run goes by: the schema, the sources in their order, 256 at most, and the least rating that can be chosen.
-/// Each code of a source was accepted under some schema, and those that a source asks may not write.
+/// The plan of a run: the schema, the sources in order, at most 256, and the minimum rating that can be chosen. Every
+/// code of a source was accepted under some schema, and the codes that a source asks may not write.
 pub struct Plan {
     schema: SharedSchema,
     sources: Items<Source>,
@@ -24,7 +24,7 @@ pub struct Plan {
     concerned: Concerned,
 }
 
-// By hand, so that a proof meets one call where it is dropped, and not each of its parts.
+// By hand: proofs then meet one call per drop, not one per part.
 impl Drop for Plan {
     fn drop(self) {
         let Plan {
@@ -55,7 +55,7 @@ impl Model for Plan {
 }
 
 impl Plan {
-    /// A plan of these sources in their order, 256 at most.
+    /// Creates a plan of these sources in order, at most 256. The error: out of memory.
     pub fn new(
         alloc: Global,
         schema: SharedSchema,
@@ -76,21 +76,21 @@ impl Plan {
         })
     }
 
-    /// The schema.
+    /// Returns the schema.
     pub fn schema(&self) -> &Schema
         ensures { result.now ≡ self.now.schema }
     {
         self.schema.get()
     }
 
-    /// The schema, for one more owner.
+    /// Returns the schema, for another owner.
     pub fn shared_schema(&self) -> Result<SharedSchema, Memory>
         ensures { IfOk result (λ shared. shared ≡ self.now.schema) }
     {
         self.schema.share()
     }
 
-    /// The sources in their order, 256 at most, with what holds of each.
+    /// Returns the sources in order, at most 256, and states their invariants.
     pub fn sources(&self) -> &[Source]
         ensures sources { result.now ≡ self.now.sources }
         ensures few { length result.now ≤ SOURCE_LIMIT }
@@ -99,15 +99,15 @@ impl Plan {
         self.sources.as_slice()
     }
 
-    /// The places of the sources that have a clause of the kind of an event, in order. They are found by that kind,
-    /// whatever the number of sources.
+    /// Returns the places of the sources that have a clause of the kind of an event, in order. The look-up time does
+    /// not depend on the number of sources.
     pub fn concerned(&self, event: Event) -> &[u16]
         ensures { result.now ≡ concerned event self.now.sources }
     {
         self.concerned.by(event)
     }
 
-    /// The least rating that can be chosen.
+    /// Returns the minimum rating that can be chosen.
     pub fn floor(&self) -> i64
         ensures { result ≡ self.now.floor }
     {
@@ -115,12 +115,12 @@ impl Plan {
     }
 }
 
-// What holds of each source holds of all.
+// Every source keeps its invariant, so all do.
 fn all_fit(sources: &[Source])
     ensures { All HasSoundCodes sources.now }
 {
     for source in sources {
-        // For the proof: what holds of the source.
+        // For the proof: the invariant of the source.
         source.fits();
     }
 }

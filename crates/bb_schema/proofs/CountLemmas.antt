@@ -5,7 +5,7 @@ use Rattle.std.proofs.lemmas.List.{length-map}
 use Rattle.bb_schema_classes.specs.declared.label_set.LabelSet.{LabelSet}
 use Rattle.bb_schema_classes.specs.declared.read.labels.TheConstants.{LABEL_SET_LIMIT}
 use Rattle.bb_schema_classes.specs.declared.draft.TheConstants.{SLOT_LIMIT}
-use Rattle.bb_schema_slots.specs.declared.slot.Slot.{Slot}
+use Rattle.bb_schema.specs.declared.slot.Slot.{Slot}
 use Rattle.bb_schema.specs.declared.space.Space.{Space}
 use Rattle.bb_schema.specs.declared.read.spaces.TheConstants.{SPACE_LIMIT}
 use Rattle.bb_schema.specs.Schema.{Schema}

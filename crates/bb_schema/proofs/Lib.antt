@@ -9,3 +9,10 @@ pub mod SchemaFitLemmas
 pub mod OwnershipLemmas
 pub mod Laws
 pub mod Limits
+pub mod SlotsSameLemmas
+pub mod LineageLemmas
+pub mod HeirLemmas
+pub mod StrikeLemmas
+pub mod RelationLemmas
+pub mod StruckLemmas
+pub mod SlotsLaws

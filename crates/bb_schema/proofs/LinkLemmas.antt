@@ -14,10 +14,10 @@ use Rattle.bb_schema_classes.specs.declared.draft.LinkDraft.{LinkDraft}
 use Rattle.bb_schema_classes.specs.declared.draft.SchemaDraft.{SchemaDraft}
 use Rattle.bb_schema_classes.specs.Resolution.{resolved_link}
 use Rattle.bb_schema_classes.specs.Fits.{LeadsBy, ArePaired}
-use Rattle.bb_schema_slots.specs.declared.slot.Slot.{Slot}
-use Rattle.bb_schema_slots.specs.declared.slot.Content.TheVariants as contents
-use Rattle.bb_schema_slots.specs.Slots.{link_in, link_of}
-use Rattle.bb_schema_slots.specs.Resolution.{resolved_slot}
+use Rattle.bb_schema.specs.declared.slot.Slot.{Slot}
+use Rattle.bb_schema.specs.declared.slot.Content.TheVariants as contents
+use Rattle.bb_schema.specs.Slots.{link_in, link_of}
+use Rattle.bb_schema.specs.Resolution.{resolved_slot}
 use Rattle.bb_schema.specs.Fits.{IsCoupled}
 
 -- a slot made of a link, by its numbers

@@ -1,14 +1,14 @@
--- The slots of a schema are of classes and lead to classes, so the laws of heirs and of what a delete strikes hold of it.
+-- The slots of a schema are of classes and lead to classes, so the laws of heirs and strikes hold of it.
 use Rattle.std.proofs.Common.{◌≡◌, ℕ, true, length, Option, Some, None, refl, ap, ◌∙◌, arith}
 use Rattle.std.specs.Prelude.{slice_get, option_map, option_and_then}
 use Rattle.bb_basis.proofs.ClosureLemmas.{has}
 use Rattle.bb_schema_classes.specs.declared.kind.Link.{Link}
 use Rattle.bb_schema_classes.proofs.Laws.{All-at, climbs_sound}
-use Rattle.bb_schema_slots.specs.declared.slot.Slot.{Slot}
-use Rattle.bb_schema_slots.specs.Slots.{link_in}
-use Rattle.bb_schema_slots.specs.Heirs.{related_in}
-use Rattle.bb_schema_slots.specs.proving.Struck.{struck_table}
-use Rattle.bb_schema_slots.proofs.Laws.{AreSound, leads_by, heirs_first, heirs_closed, struck_by, strikes_above, table_told}
+use Rattle.bb_schema.specs.declared.slot.Slot.{Slot}
+use Rattle.bb_schema.specs.Slots.{link_in}
+use Rattle.bb_schema.specs.Heirs.{related_in}
+use Rattle.bb_schema.specs.proving.Struck.{struck_table}
+use Rattle.bb_schema.proofs.SlotsLaws.{AreSound, leads_by, heirs_first, heirs_closed, struck_by, strikes_above, table_told}
 use Rattle.bb_schema.specs.Schema.{Schema, descends}
 use Rattle.bb_schema.specs.Fits.{IsSlot, Fits}
 use Rattle.bb_schema.specs.Ownership.{heirs, strikes}

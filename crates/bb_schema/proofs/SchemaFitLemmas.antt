@@ -22,9 +22,9 @@ use Rattle.bb_schema_form.specs.declared.place.ListKey.TheVariants as lists
 use Rattle.bb_schema_classes.specs.declared.label_set.LabelSet.{LabelSet}
 use Rattle.bb_schema_classes.specs.declared.class.Class.{Class}
 use Rattle.bb_schema_classes.specs.declared.value.Value.{Value}
-use Rattle.bb_schema_slots.specs.declared.slot.Slot.{Slot}
-use Rattle.bb_schema_slots.specs.declared.slot.Content.{Content}
-use Rattle.bb_schema_slots.specs.declared.slot.Content.TheVariants as contents
+use Rattle.bb_schema.specs.declared.slot.Slot.{Slot}
+use Rattle.bb_schema.specs.declared.slot.Content.{Content}
+use Rattle.bb_schema.specs.declared.slot.Content.TheVariants as contents
 use Rattle.bb_schema_classes.specs.declared.draft.Draft.{Draft}
 use Rattle.bb_schema_classes.specs.declared.draft.DraftContent.{DraftContent}
 use Rattle.bb_schema_classes.specs.declared.draft.DraftContent.TheVariants as drafts
@@ -32,10 +32,10 @@ use Rattle.bb_schema.specs.declared.space.Space.{Space}
 use Rattle.bb_schema.specs.declared.space.Dim.{Dim}
 use Rattle.bb_basis.specs.Names.{is_name}
 use Rattle.bb_schema.specs.Schema.{Schema, class_named, label_set_named}
-use Rattle.bb_schema_slots.specs.Slots.{default_in}
+use Rattle.bb_schema.specs.Slots.{default_in}
 use Rattle.bb_schema_classes.specs.declared.draft.SchemaDraft.{SchemaDraft}
 use Rattle.bb_schema_classes.specs.Resolution.{resolved_link}
-use Rattle.bb_schema_slots.specs.Resolution.{resolved_content, resolved_slot}
+use Rattle.bb_schema.specs.Resolution.{resolved_content, resolved_slot}
 use Rattle.bb_schema_classes.specs.Inheritance.{is_among}
 use Rattle.bb_schema.specs.SpaceReading.{space_class_after, has_slot_for, set_number, dim_after, space_after}
 use Rattle.bb_schema.specs.Fits.{IsSlot, IsSpace, AreSpaces, Fits}

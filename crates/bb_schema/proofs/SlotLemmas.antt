@@ -12,9 +12,9 @@ use Rattle.bb_schema_classes.specs.declared.draft.DraftContent.TheVariants as co
 use Rattle.bb_schema_classes.specs.Inheritance.{descends_in}
 use Rattle.bb_schema_classes.specs.Focus.{focus_drafts}
 use Rattle.bb_schema_classes.specs.Fits.{StartsWith, OwnsDrafts, AreNamedApart}
-use Rattle.bb_schema_slots.specs.declared.slot.Slot.{Slot}
-use Rattle.bb_schema_slots.specs.declared.slot.Content.TheVariants as slots
-use Rattle.bb_schema_slots.specs.Resolution.{resolved_content, resolved_slot}
+use Rattle.bb_schema.specs.declared.slot.Slot.{Slot}
+use Rattle.bb_schema.specs.declared.slot.Content.TheVariants as slots
+use Rattle.bb_schema.specs.Resolution.{resolved_content, resolved_slot}
 use Rattle.bb_schema.specs.Focus.{focus_slots}
 use Rattle.bb_schema.specs.Fits.{OwnsSlots, HasOwnNames}
 

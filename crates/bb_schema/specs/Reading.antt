@@ -1,4 +1,4 @@
--- The schema that a text means, or its first fault: the JSON, its form, then one walk over the entries.
+-- The schema that a text declares, or its first fault: the JSON, its form, then one walk over the entries.
 use Rattle.std.specs.Prelude.{ℕ, [], List, Result, Ok}
 use Rattle.bb_basis.specs.Results.{◌>>=◌, map_err, try_map, try_fold_at}
 use Rattle.bb_schema_form.specs.Document.{Declarations, SpaceDeclaration}
@@ -13,16 +13,16 @@ use Rattle.bb_schema_form.specs.declared.place.ListKey.TheVariants as lists
 use Rattle.bb_schema.specs.Schema.{Schema}
 use Rattle.bb_schema_classes.specs.declared.read.Walked.{Walked}
 use Rattle.bb_schema_classes.specs.Walk.{walk_of}
-use Rattle.bb_schema_slots.specs.Resolution.{resolved_slot}
+use Rattle.bb_schema.specs.Resolution.{resolved_slot}
 use Rattle.bb_schema.specs.SpaceReading.{space_after}
 
--- a fault of the document as one of the schema
+-- a fault of a document as a fault of a schema
 abbrev pub fault_of : DocumentFault → SchemaFault
 fault_of Json = here flaws.Json
 fault_of (Shape place) = At flaws.Shape place
 fault_of Memory = OutOfMemory
 
--- the schema of what the walk left, with numbers for names, and without spaces
+-- the schema of the walk's result, with numbers instead of names in links, and without spaces
 unfoldable pub bare_schema : Walked → Result Schema SchemaFault
 bare_schema w = do
   slots ← try_map (resolved_slot w.draft.classes w.draft.slots) w.draft.slots
@@ -40,6 +40,6 @@ declared_schema declared = do
   bare ← bare_schema walked
   schema_with_spaces bare declared.spaces
 
--- the schema that a text means
+-- the schema that a text declares
 unfoldable pub schema_of : List ℕ → Result Schema SchemaFault
 schema_of text = map_err fault_of (document_of text) >>= declared_schema

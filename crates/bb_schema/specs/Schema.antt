@@ -1,26 +1,26 @@
--- What a schema is, and how its parts are found (GBBopen Reference Manual, unit classes and slots).
+-- Schemas, and how their parts are found (GBBopen Reference Manual, unit classes and slots).
 use Rattle.std.specs.Prelude.{ℕ, Bool, List, [], map, slice_get, Option, option_and_then, option_map, position, find}
 use Rattle.std.specs.Option.{option_map_or}
 use Rattle.std.specs.Str.{bytes_eq}
 use Rattle.bb_schema_classes.specs.declared.label_set.LabelSet.{LabelSet}
 use Rattle.bb_schema_classes.specs.declared.class.Class.{Class}
 use Rattle.bb_schema_classes.specs.declared.value.Value.{Value}
-use Rattle.bb_schema_slots.specs.declared.slot.Slot.{Slot}
+use Rattle.bb_schema.specs.declared.slot.Slot.{Slot}
 use Rattle.bb_schema_classes.specs.declared.kind.Kind.{Kind}
 use Rattle.bb_schema.specs.declared.space.Space.{Space}
 use Rattle.bb_schema.specs.declared.space.Dim.{Dim}
-use Rattle.bb_schema_slots.specs.Kinds.{kind_of}
+use Rattle.bb_schema.specs.Kinds.{kind_of}
 use Rattle.bb_schema_classes.specs.Inheritance.{descends_in, slots_in}
-use Rattle.bb_schema_slots.specs.Slots.{has_name, default_in, link_of}
+use Rattle.bb_schema.specs.Slots.{has_name, default_in, link_of}
 
--- all parts by their numbers: class 0 is `focus`
+-- all parts, indexed by their numbers; class 0 is `focus`
 pub record Schema : Type 0 where
   pub label_sets : List LabelSet
   pub classes : List Class
   pub slots : List Slot
   pub spaces : List Space
 
--- the numbers of names
+-- the numbers of the parts with these names
 abbrev pub class_named : Schema → List ℕ → Option ℕ
 class_named s name = position (bytes_eq name) (map (λ k. k.name) s.classes)
 
@@ -38,11 +38,11 @@ label_named s set name = option_and_then (λ l. position (bytes_eq name) l.value
 abbrev pub slots_of : Schema → ℕ → List ℕ
 slots_of s c = slots_in s.classes c
 
--- the slot that a name means in a class
+-- the slot with a name in a class, inherited ones included
 abbrev pub slot_named : Schema → ℕ → List ℕ → Option ℕ
 slot_named s c name = find (has_name s.slots name) (slots_of s c)
 
--- the names of numbers
+-- the names of the parts with these numbers
 abbrev pub name_of_class : Schema → ℕ → Option (List ℕ)
 name_of_class s c = option_map (λ k. k.name) (slice_get s.classes c)
 
@@ -61,7 +61,7 @@ label_at sets set label = option_and_then (λ l. slice_get l.values label) (slic
 abbrev pub name_of_label : Schema → ℕ → ℕ → Option (List ℕ)
 name_of_label s set label = label_at s.label_sets set label
 
--- what a slot is
+-- the class that declares a slot, and the kind of a slot
 abbrev pub owner_of : Schema → ℕ → Option ℕ
 owner_of s n = option_map (λ t. t.owner) (slice_get s.slots n)
 
@@ -72,7 +72,7 @@ kind_of_slot s n = option_map (λ t. kind_of t.content) (slice_get s.slots n)
 abbrev pub default_of : Schema → ℕ → Option Value
 default_of s n = option_and_then (λ t. default_in t.content) (slice_get s.slots n)
 
--- the inverse of a link slot
+-- the inverse of a link slot; any other number gives itself
 abbrev pub inverse_of : List Slot → ℕ → ℕ
 inverse_of slots n = option_map_or (λ l. l.inverse) (link_of slots n) n
 

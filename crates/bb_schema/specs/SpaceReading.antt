@@ -1,4 +1,4 @@
--- The spaces that a document's entries mean, one after another, over a schema that has no spaces yet.
+-- The spaces that a document's entries declare, one after another, for a schema that has no spaces yet.
 use Rattle.std.specs.Prelude.{ℕ, Bool, true, false, not, ◌==◌, ◌∷◌, [], ◌++◌, nat_le, List, map, length, Option, Some, None, Result, Ok, Err, if◌then◌else◌}
 use Rattle.std.specs.List.{list_any, list_all}
 use Rattle.std.specs.Option.{option_map_or}
@@ -18,7 +18,7 @@ use Rattle.bb_basis.specs.Names.{is_name}
 use Rattle.bb_schema_classes.specs.Inheritance.{is_among}
 use Rattle.bb_schema.specs.Schema.{Schema, class_named, label_set_named, slot_named, kind_of_slot}
 
--- the classes of a space with one more, or what is wrong with it
+-- the classes of a space with the named one added, or the fault of the name
 unfoldable pub space_class_after : Schema → List ℕ → List ℕ → Result (List ℕ) SchemaFault
 space_class_after s listed name = ok_or (class_named s name) (here flaws.Unknown) >>= λ c.
     if is_among listed c then Err (here flaws.Twice) else Ok (listed ++ c ∷ [])
@@ -30,7 +30,7 @@ suits None Interval = true
 suits (Some set) (Label other) = other == set
 suits _ _ = false
 
--- the class has a slot for the dimension of the name
+-- whether the class has a slot for the dimension with the name
 unfoldable pub has_slot_for : Schema → List ℕ → Option ℕ → ℕ → Bool
 has_slot_for s name set c =
     option_map_or (λ n. option_map_or (suits set) (kind_of_slot s n) false) (slot_named s c name) false
@@ -40,7 +40,7 @@ abbrev pub set_number : Schema → Option (List ℕ) → Result (Option ℕ) Sch
 set_number s None = Ok None
 set_number s (Some name) = ok_or (label_set_named s name) (here flaws.Unknown) >>= λ set. Ok (Some set)
 
--- the dimensions with one more, of a space that lists these classes
+-- the dimensions of a space that lists these classes, with the entry's dimension added, or the entry's fault
 unfoldable pub dim_after : Schema → List ℕ → List Dim → DimDeclaration → Result (List Dim) SchemaFault
 dim_after s listed dims entry =
     if not (is_name entry.name) then Err (here flaws.Name)
@@ -50,7 +50,7 @@ dim_after s listed dims entry =
     else if nat_le DIM_LIMIT (length dims) then Err (here flaws.Limit)
     else Ok (dims ++ record { name = entry.name; set = set } ∷ [])
 
--- the spaces with one more
+-- the spaces with the entry's space added, or the entry's fault
 unfoldable pub space_after : Schema → List Space → SpaceDeclaration → Result (List Space) SchemaFault
 space_after s spaces entry =
     if not (is_name entry.name) then Err (here flaws.Name)

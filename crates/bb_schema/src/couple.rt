@@ -1,28 +1,28 @@
-//! Couples of link slots that are each other's inverse. A schema counts them once, when it is made.
+//! Couples: a link slot and its inverse, an association. A schema counts them once, when it is read.
 
 ghost use Rattle.std.specs.Prelude.{◌≡◌, ◌≤◌, ◌<◌, length, IfOk};
 ghost use Rattle.bb_schema.specs.Couples.{comes_first, firsts, counts, couple_end, pair_of};
 ghost use Rattle.bb_schema_classes.specs.declared.draft.TheConstants.{SLOT_LIMIT};
 
+use crate::slot::{Content, Slot};
 use crate::unit::UnitId;
 use bb_schema_classes::{Link, SlotId};
-use bb_schema_slots::{Content, Slot};
 use std::alloc::{AllocError, Global};
 
-/// The number of a couple of link slots that are each other's inverse, by the order of their first slots.
+/// The number of a couple: a link slot and its inverse. Couples are ordered by their first slots.
 pub type CoupleId = u16;
 
 /// One of the two slots of a couple.
 #[derive(Clone, Copy, Debug, PartialEq, Eq, Drop)]
 pub enum Side {
-    /// The slot of the lower number.
+    /// The slot with the lower number.
     A,
-    /// The slot of the higher number.
+    /// The slot with the higher number.
     B,
 }
 
 impl Side {
-    /// The pair of a unit at this side and its partner at the other.
+    /// Returns a unit at this side and its partner at the other side, the unit at side A first.
     pub fn pair(self, unit: UnitId, partner: UnitId) -> (UnitId, UnitId)
         ensures { result ≡ pair_of self unit partner }
     {
@@ -33,7 +33,7 @@ impl Side {
     }
 }
 
-// Whether a slot is a link slot and comes before its inverse.
+// Whether a slot is a link slot with a lower number than its inverse.
 fn comes_first(number: usize, slot: &Slot) -> bool
     ensures { result ≡ comes_first number slot.now }
 {
@@ -43,7 +43,7 @@ fn comes_first(number: usize, slot: &Slot) -> bool
     }
 }
 
-/// For each slot the number of couples before it, and the number of all.
+/// Returns, for each slot, the number of couples before it, and the number of all couples.
 pub(crate) fn count_couples(
     alloc: Global,
     slots: &[Slot],
@@ -63,7 +63,7 @@ pub(crate) fn count_couples(
     Ok((couples_before, count))
 }
 
-/// The couple of a link slot, and which side the slot is. `couples_before` has for each slot the number of couples
+/// Returns the couple of a link slot, and the slot's side. `couples_before` has, for each slot, the number of couples
 /// before it.
 pub(crate) fn couple_end(
     slots: &[Slot],

@@ -1,19 +1,27 @@
-//! The schema of a blackboard: classes, slots with their links resolved, couples of link slots, and spaces.
+//! The schema of a blackboard: classes, slots with resolved links, associations (couples of inverse link slots),
+//! spaces, and ownership, which decides the classes of units that a delete may delete.
 //!
 //! - In: the text of a schema's document.
-//! - Out: `Schema::read`, the schema that the document means, or the first `SchemaFault` with the entry that it is at.
-//! - Callers rely on: what a schema declares has a number from here on (`ClassId`, `SlotId`, `SpaceId`, ..), and no
-//!   name is looked up again to run anything. A `SharedSchema` is one schema with many owners.
-//! - Family: bb_schema_form has the JSON, bb_schema_classes the classes, bb_schema_slots the slots.
-//! - Cases: `schemas`, `documents`, `limits_of_documents`, `model-schemas`; tests in bb_board_parts_tests.
+//! - Out: `Schema::read`, which returns the schema that the document declares, or the first `SchemaFault` with its
+//!   entry.
+//! - Callers rely on: everything that a schema declares has a number (`ClassId`, `SlotId`, `SpaceId`, ..), and a run
+//!   looks up no names. A `SharedSchema` is one schema with many owners.
+//! - Family: bb_schema_form reads the JSON, bb_schema_classes the label sets and classes; bb_schema resolves the links
+//!   of their slots and reads the spaces.
+//! - Cases: `schemas`, `documents`, `limits_of_documents`, `model-schemas`, `owning`; tests in bb_board_parts_tests.
 #![tactic(auto)]
 
 mod couple;
+mod lineage;
 mod ownership;
 mod read;
+mod relation;
+mod resolve;
 mod schema;
 mod shared_schema;
+mod slot;
 mod space;
+mod struck;
 mod unit;
 
 pub use bb_schema_classes::{
@@ -21,7 +29,11 @@ pub use bb_schema_classes::{
     SchemaFlaw, SlotId, TEXT_LIMIT, Value,
 };
 pub use couple::{CoupleId, Side};
+pub use lineage::Lineage;
+pub use resolve::resolve_slots;
 pub use schema::Schema;
 pub use shared_schema::SharedSchema;
+pub use slot::{Content, Slot, find_slot, link_at};
 pub use space::{Dim, SpaceId};
+pub use struck::{struck_at, struck_table};
 pub use unit::UnitId;

@@ -1,15 +1,15 @@
-//! Ownership, as a schema is asked of it: which slots own, and what a delete strikes.
+//! Ownership in a schema: which slots own, and which classes of units a delete may delete.
 
 ghost use Rattle.std.specs.Prelude.{◌≡◌};
 ghost use Rattle.bb_schema.specs.Ownership.{owns, owns_any, strikes};
 
 use crate::schema::Schema;
+use crate::struck::struck_at;
 use bb_schema_classes::{ClassId, SlotId};
-use bb_schema_slots::struck_at;
 
 impl Schema {
-    /// Whether the slot of a number is there and a link slot that owns: a unit owns those that the slot holds, and they
-    /// are deleted with it.
+    /// Returns whether the slot with a number exists and is a link slot that owns. A unit owns the units in such a
+    /// slot, and they are deleted with it.
     pub fn owns(&self, slot: SlotId) -> bool
         ensures { result ≡ owns self.now slot }
     {
@@ -19,16 +19,16 @@ impl Schema {
         }
     }
 
-    /// Whether some slot owns.
+    /// Returns whether any slot owns.
     pub fn owns_any(&self) -> bool
         ensures { result ≡ owns_any self.now }
     {
         self.struck.is_some()
     }
 
-    /// Whether a delete of a unit of class `deleted` may delete one of class `class`: that class is related to one of
-    /// the least set of classes that has `deleted` and, for each owning slot that a class related to one of the set
-    /// declares, the class that the slot leads to.
+    /// Returns whether a delete of a unit of class `deleted` may delete a unit of class `class`: `class` is related to
+    /// a class of the least set that has `deleted` and the target class of every owning slot that is declared by a
+    /// class related to a class of the set.
     pub fn strikes(&self, deleted: ClassId, class: ClassId) -> bool
         ensures { result ≡ strikes self.now deleted class }
     {

@@ -1,4 +1,4 @@
-//! `Schema::read`: the document, one walk over its entries, begun by `Walked::of`, and the schema that they mean.
+//! `Schema::read`: the document, one walk over its entries, which `Walked::of` begins, and the schema they declare.
 
 ghost use Rattle.std.specs.Prelude.{◌≡◌, IfErr, IfOk, map};
 ghost use Rattle.bb_basis.specs.Results.{Gives, map_err};
@@ -12,11 +12,13 @@ ghost use Rattle.bb_schema.specs.Reading.{fault_of, bare_schema, schema_with_spa
 mod spaces;
 
 use crate::couple::count_couples;
+use crate::lineage::Lineage;
+use crate::resolve::resolve_slots;
 use crate::schema::Schema;
+use crate::struck::struck_table;
 use bb_basis::Table;
 use bb_schema_classes::{SchemaFault, SchemaFlaw, Walked, spans_of};
 use bb_schema_form::{Document, DocumentFault, SpaceEntry};
-use bb_schema_slots::{Lineage, resolve_slots, struck_table};
 use spaces::spaces_of;
 use std::alloc::Global;
 
@@ -35,12 +37,12 @@ fn document(alloc: Global, text: &str) -> Result<Document, SchemaFault>
     }
 }
 
-// The schema of what the walk left, with numbers for the names of its links, and without spaces.
+// The schema of the walk's result, with numbers for the names in links, and without spaces.
 #[tactic(auto, unfolding(crate::specs::Reading::bare_schema))]
 fn bare_schema(alloc: Global, walked: Walked) -> Result<Schema, SchemaFault>
     requires { IsWalked walked }
     ensures gives { Gives OutOfMemory (λ s. s) result (bare_schema walked) }
-    // The walk has refused whatever could be refused here.
+    // The walk has already refused everything that could be refused here.
     ensures only { IfErr result (λ e. e ≡ OutOfMemory) }
 {
     let Walked { label_sets, draft } = walked;
@@ -77,7 +79,7 @@ fn schema_with_spaces(
     Ok(bare.with_spaces(spaces))
 }
 
-// The schema that the entries of a document mean. Their intervals are in order, as `Document::read` gives them.
+// The schema that a document's entries declare. Their intervals must be in order, as `Document::read` ensures.
 #[tactic(auto, unfolding(crate::specs::Reading::declared_schema))]
 fn declared_schema(alloc: Global, document: Document) -> Result<Schema, SchemaFault>
     requires { HaveSoundDefaults (declarations document) }
@@ -94,11 +96,11 @@ fn declared_schema(alloc: Global, document: Document) -> Result<Schema, SchemaFa
 }
 
 impl Schema {
-    /// The schema that a JSON document means, or its first fault: `Json` where the text is not JSON, then `Shape`
-    /// where the JSON has another form, then the first fault of a walk over the entries: label sets with their labels,
-    /// classes with their slots and then links, spaces with their classes and then dimensions. At each entry the
-    /// checks come in the order of the faults' numbers. The place is that of the entry with the fault; `Json` has that
-    /// of the whole document, and so has the form of the document itself. `Memory`, which has no place, may come at any
+    /// Returns the schema that a JSON document declares, or its first fault: `Json` if the text is not JSON, then
+    /// `Shape` if the JSON has another form, then the first fault of a walk over the entries: label sets with their
+    /// labels, classes with their slots and then links, spaces with their classes and then dimensions. At each entry,
+    /// checks are made in the order of the faults' numbers. The place is the entry with the fault, or the whole
+    /// document for `Json` and for a fault of the document's own form. `Memory` has no place and may occur at any
     /// point.
     #[tactic(auto, unfolding(crate::specs::Reading::schema_of))]
     pub fn read(alloc: Global, text: &str) -> Result<Schema, SchemaFault>

@@ -1,9 +1,9 @@
-//! The schema and what can be asked of it. Every crate above looks names, slots and classes up here.
+//! The schema and its queries. The crates above look up names, slots and classes here.
 
 ghost use Rattle.std.specs.Prelude.{◌≡◌, ◌<◌, ◌≤◌, ◌↔◌, Some, IsSome, is_some, IsTrue, length, min, slice_get, option_map, ◌⊎◌};
 ghost use Rattle.std.specs.List.{list_any};
 ghost use Rattle.bb_schema.specs.Schema.{class_named, space_named, label_set_named, label_named, slot_named, name_of_class, name_of_slot, name_of_space, name_of_label_set, name_of_label, slots_of, owner_of, kind_of_slot, default_of, inverse_of, dims_of, descends};
-ghost use Rattle.bb_schema_slots.specs.Slots.{link_of};
+ghost use Rattle.bb_schema.specs.Slots.{link_of};
 ghost use Rattle.bb_schema_classes.specs.Inheritance.{parent_of, Descends};
 ghost use Rattle.bb_schema.specs.Couples.{couples, couple_of};
 ghost use Rattle.bb_schema.specs.Fits.{Fits, AreSpaces};
@@ -15,16 +15,17 @@ ghost use Rattle.bb_schema.specs.declared.read.spaces.TheConstants.{SPACE_LIMIT}
 ghost use Rattle.bb_schema.specs.Spaces.{classes_in, allowed, IsAllowed};
 
 use crate::couple::{CoupleId, Side, couple_end};
+use crate::lineage::Lineage;
+use crate::slot::{Content, Slot, find_slot, link_at};
 use crate::space::{Dim, Space, SpaceId};
 use bb_basis::{Items, NAME_LIMIT, Table};
 use bb_schema_classes::{
     Class, ClassId, Kind, LabelId, LabelSet, LabelSetId, Link, SlotId, Span, Value, parent,
 };
-use bb_schema_slots::{Content, Lineage, Slot, find_slot, link_at};
 use std::marker::Model;
 
-/// The classes of units, their slots, the label sets of these, and the spaces (GBBopen Reference Manual, unit classes
-/// and space instances).
+/// The classes of units, their slots, the label sets of the slots, and the spaces (GBBopen Reference Manual, unit
+/// classes and space instances).
 pub struct Schema {
     pub(crate) label_sets: Table<LabelSet>,
     pub(crate) classes: Table<Class>,
@@ -33,9 +34,9 @@ pub struct Schema {
     /// For each slot, the number of couples before it.
     pub(crate) couples_before: Vec<CoupleId>,
     pub(crate) couple_count: usize,
-    /// For each class, its span, by which it is known what descends from the class.
+    /// For each class, its span, which shows the classes that descend from it.
     pub(crate) spans: Vec<Span>,
-    /// For each class a row of the classes that a delete of its units strikes. `None` where no slot owns.
+    /// For each class, a row with the classes of units that a delete of its units may delete. `None` if no slot owns.
     pub(crate) struck: Option<Items<Items<bool>>>,
 }
 
@@ -61,7 +62,7 @@ impl Model for Schema {
     }) s.couples_before.items s.couple_count s.spans.items s.struck };
 }
 
-// By hand, so that a proof meets one call where a schema is dropped, and not all its parts.
+// By hand, so that proofs see a drop as one call, not one per part.
 impl Drop for Schema {
     fn drop(self) {
         let Schema {
@@ -78,41 +79,41 @@ impl Drop for Schema {
 }
 
 impl Schema {
-    /// The number of the class of a name.
+    /// Returns the number of the class with a name.
     pub fn class(&self, name: &str) -> Option<ClassId>
         ensures { result ≡ class_named self.now name.now }
     {
         let classes = &self.classes;
-        // What is too long for a name is not hashed.
+        // A text too long for a name is not hashed.
         if name.len() > NAME_LIMIT {
             return None;
         }
         classes.index_of(name)
     }
 
-    /// The number of the space of a name.
+    /// Returns the number of the space with a name.
     pub fn space(&self, name: &str) -> Option<SpaceId>
         ensures { result ≡ space_named self.now name.now }
     {
         self.spaces.index_of(name)
     }
 
-    /// The number of the label set of a name.
+    /// Returns the number of the label set with a name.
     pub fn label_set(&self, name: &str) -> Option<LabelSetId>
         ensures { result ≡ label_set_named self.now name.now }
     {
         self.label_sets.index_of(name)
     }
 
-    /// The number of a label in a set, or `None` where the set isn't there or has no such label.
+    /// Returns the number of a label in a set, or `None` if the set doesn't exist or has no such label.
     pub fn label(&self, set: LabelSetId, name: &str) -> Option<LabelId>
         ensures { result ≡ label_named self.now set name.now }
     {
         self.label_sets.get(set as usize)?.values.index_of(name)
     }
 
-    /// The number of the slot that a name refers to in a class, inherited ones included, or `None` where the class
-    /// isn't there or has no such slot.
+    /// Returns the number of the slot with a name in a class, inherited ones included, or `None` if the class doesn't
+    /// exist or has no such slot.
     pub fn slot(&self, class: ClassId, name: &str) -> Option<SlotId>
         ensures { result ≡ slot_named self.now class name.now }
     {
@@ -120,42 +121,42 @@ impl Schema {
         find_slot(&self.slots, found.slots.as_slice(), name)
     }
 
-    /// The name of a class, or `None` where no class has the number.
+    /// Returns the name of a class, or `None` if no class has the number.
     pub fn class_name(&self, class: ClassId) -> Option<&str>
         ensures { option_map (λ n. n.now) result ≡ name_of_class self.now class }
     {
         Some(self.classes.get(class as usize)?.name.as_str())
     }
 
-    /// The name of a slot, or `None` where no slot has the number.
+    /// Returns the name of a slot, or `None` if no slot has the number.
     pub fn slot_name(&self, slot: SlotId) -> Option<&str>
         ensures { option_map (λ n. n.now) result ≡ name_of_slot self.now slot }
     {
         Some(self.slots.get(slot as usize)?.name.as_str())
     }
 
-    /// The name of a space, or `None` where no space has the number.
+    /// Returns the name of a space, or `None` if no space has the number.
     pub fn space_name(&self, space: SpaceId) -> Option<&str>
         ensures { option_map (λ n. n.now) result ≡ name_of_space self.now space }
     {
         Some(self.spaces.get(space as usize)?.name.as_str())
     }
 
-    /// The name of a label set, or `None` where no set has the number.
+    /// Returns the name of a label set, or `None` if no set has the number.
     pub fn label_set_name(&self, set: LabelSetId) -> Option<&str>
         ensures { option_map (λ n. n.now) result ≡ name_of_label_set self.now set }
     {
         Some(self.label_sets.get(set as usize)?.name.as_str())
     }
 
-    /// The name of a label of a set, or `None` where there is none.
+    /// Returns the name of a label of a set, or `None` if there is no such set or label.
     pub fn label_name(&self, set: LabelSetId, label: LabelId) -> Option<&str>
         ensures { option_map (λ n. n.now) result ≡ name_of_label self.now set label }
     {
         self.label_sets.get(set as usize)?.values.get(label)
     }
 
-    /// The number of label sets.
+    /// Returns the number of label sets.
     pub fn label_set_count(&self) -> usize
         ensures count { result ≡ length self.now.label_sets }
         ensures few { result ≤ LABEL_SET_LIMIT }
@@ -163,7 +164,7 @@ impl Schema {
         self.label_sets.len()
     }
 
-    /// The number of labels of a set.
+    /// Returns the number of labels of a set.
     pub fn label_count(&self, set: LabelSetId) -> usize
         requires { set < length self.now.label_sets }
         ensures { slice_get (label_counts self.now.label_sets) set ≡ Some result }
@@ -171,7 +172,7 @@ impl Schema {
         self.label_sets.as_slice()[set as usize].values.len()
     }
 
-    /// The number of classes, `focus` included.
+    /// Returns the number of classes, `focus` included.
     pub fn class_count(&self) -> usize
         ensures count { result ≡ length self.now.classes }
         ensures few { result ≤ CLASS_LIMIT }
@@ -179,7 +180,7 @@ impl Schema {
         self.classes.len()
     }
 
-    /// The number of slots that all classes declare.
+    /// Returns the number of slots that all classes declare.
     pub fn slot_count(&self) -> usize
         ensures count { result ≡ length self.now.slots }
         ensures few { result ≤ SLOT_LIMIT }
@@ -187,7 +188,7 @@ impl Schema {
         self.slots.len()
     }
 
-    /// The number of spaces.
+    /// Returns the number of spaces.
     pub fn space_count(&self) -> usize
         ensures count { result ≡ length self.now.spaces }
         ensures few { result ≤ SPACE_LIMIT }
@@ -195,7 +196,7 @@ impl Schema {
         self.spaces.len()
     }
 
-    /// The number of couples of link slots.
+    /// Returns the number of couples of link slots.
     pub fn couple_count(&self) -> usize
         ensures count { result ≡ length (couples self.now) }
         ensures few { result ≤ SLOT_LIMIT }
@@ -203,7 +204,7 @@ impl Schema {
         self.couple_count
     }
 
-    /// The parent of a class. `focus` has none.
+    /// Returns the parent of a class, `None` if it has none. `focus` has none.
     pub fn parent(&self, class: ClassId) -> Option<ClassId>
         requires { class < length self.now.classes }
         ensures { result ≡ parent_of self.now.classes class }
@@ -211,15 +212,15 @@ impl Schema {
         parent(self.classes.as_slice(), class)
     }
 
-    /// The classes, as they descend from each other.
+    /// Returns the classes with their spans.
     pub(crate) fn lineage(&self) -> Lineage<'_>
         ensures { result ≡ self.now.classes }
     {
         Lineage::new(self.classes.as_slice(), self.spans.as_slice())
     }
 
-    /// Whether a class descends from another: it is that class, or its parent descends from it. A number without a
-    /// class descends from itself alone.
+    /// Returns whether a class descends from another: it is that class, or its parent descends from that class. A
+    /// number without a class descends only from itself.
     pub fn descends(&self, class: ClassId, ancestor: ClassId) -> bool
         ensures computed { result ≡ descends self.now class ancestor }
         ensures least { IsTrue result ↔ Descends self.now.classes class ancestor }
@@ -227,28 +228,29 @@ impl Schema {
         self.lineage().descends(class, ancestor)
     }
 
-    /// Whether a class descends from one of some others: two comparisons for each of these, however deep the class is.
+    /// Returns whether a class descends from any of some others. Makes at most two comparisons of numbers for each of
+    /// them, at any depth.
     pub fn descends_from_any(&self, class: ClassId, ancestors: &[ClassId]) -> bool
         ensures { result ≡ list_any (λ d. descends self.now class d) ancestors.now }
     {
         ancestors.iter().any(|above| self.descends(class, *above))
     }
 
-    /// Whether one of two classes descends from the other.
+    /// Returns whether two classes are related: one descends from the other.
     pub fn related(&self, class: ClassId, other: ClassId) -> bool
         ensures { IsTrue result ↔ (Descends self.now.classes class other ⊎ Descends self.now.classes other class) }
     {
         self.descends(class, other) || self.descends(other, class)
     }
 
-    /// What the slot of a number can hold, or `None` where no slot has the number.
+    /// Returns the kind of a slot, or `None` if no slot has the number.
     pub(crate) fn kind_at(&self, slot: SlotId) -> Option<Kind>
         ensures { result ≡ kind_of_slot self.now slot }
     {
         Some(self.slots.get(slot as usize)?.content.kind())
     }
 
-    /// What a slot can hold.
+    /// Returns the kind of a slot: what it can hold.
     pub fn kind(&self, slot: SlotId) -> Kind
         requires { slot < length self.now.slots }
         ensures { kind_of_slot self.now slot ≡ Some result }
@@ -256,7 +258,7 @@ impl Schema {
         self.slots[slot as usize].content.kind()
     }
 
-    /// Whether the slot of a number is there and an ordinary one.
+    /// Returns whether the slot with a number exists and is an ordinary slot.
     pub fn is_ordinary(&self, slot: SlotId) -> bool
         ensures { result ≡ is_some (default_of self.now slot) }
     {
@@ -266,21 +268,21 @@ impl Schema {
         }
     }
 
-    /// Whether the slot of a number is there and a link slot.
+    /// Returns whether the slot with a number exists and is a link slot.
     pub fn is_link(&self, slot: SlotId) -> bool
         ensures { result ≡ is_some (link_of self.now.slots slot) }
     {
         self.link(slot).is_some()
     }
 
-    /// The link of the slot of a number, if it is there and a link slot.
+    /// Returns the link of the slot with a number, if it exists and is a link slot.
     pub fn link(&self, slot: SlotId) -> Option<Link>
         ensures { result ≡ link_of self.now.slots slot }
     {
         link_at(&self.slots, slot)
     }
 
-    /// The inverse of a link slot. Any other slot has none, and gives itself.
+    /// Returns the inverse of a link slot, or the number itself if it is not the number of a link slot.
     pub fn inverse(&self, slot: SlotId) -> SlotId
         ensures { result ≡ inverse_of self.now.slots slot }
     {
@@ -290,7 +292,7 @@ impl Schema {
         }
     }
 
-    /// The class that declares a slot.
+    /// Returns the class that declares a slot.
     pub fn owner(&self, slot: SlotId) -> ClassId
         requires { slot < length self.now.slots }
         ensures { owner_of self.now slot ≡ Some result }
@@ -298,7 +300,7 @@ impl Schema {
         self.slots[slot as usize].owner
     }
 
-    /// What an ordinary slot holds in a new unit.
+    /// Returns the default of an ordinary slot, which it has in a new unit.
     pub fn default(&self, slot: SlotId) -> &Value
         requires { IsSome (default_of self.now slot) }
         ensures { default_of self.now slot ≡ Some result.now }
@@ -309,7 +311,7 @@ impl Schema {
         }
     }
 
-    /// All slots of a class: the inherited ones, then its own ordinary ones, then its own link slots.
+    /// Returns all slots of a class: inherited ones, then its own ordinary slots, then its own link slots.
     pub fn slots(&self, class: ClassId) -> &[SlotId]
         requires { class < length self.now.classes }
         ensures { result.now ≡ slots_of self.now class }
@@ -317,11 +319,11 @@ impl Schema {
         self.classes.as_slice()[class as usize].slots.as_slice()
     }
 
-    /// The couple of a link slot, and which side of it the slot is.
+    /// Returns the couple of a link slot, and the slot's side.
     pub fn couple(&self, slot: SlotId) -> (CoupleId, Side)
         requires { IsSome (link_of self.now.slots slot) }
         ensures computed { couple_of self.now slot ≡ Some result }
-        // The couple's number is the place of its first slot in the list of couples.
+        // The couple's number is the index of its first slot in the list of couples.
         ensures listed { slice_get (couples self.now) result.0 ≡
             option_map (λ l. min slot l.inverse) (link_of self.now.slots slot) }
     {
@@ -331,7 +333,7 @@ impl Schema {
         }
     }
 
-    /// The dimensions of a space, in the order of its document.
+    /// Returns the dimensions of a space, in document order.
     pub fn dims(&self, space: SpaceId) -> &[Dim]
         requires { space < length self.now.spaces }
         ensures { result.now ≡ dims_of self.now space }
@@ -339,7 +341,7 @@ impl Schema {
         self.spaces.as_slice()[space as usize].dims.as_slice()
     }
 
-    /// The classes that a space lists: it admits units of these and of all classes below them.
+    /// Returns the classes that a space lists. It admits units of these and of all classes below them.
     pub fn classes_in(&self, space: SpaceId) -> &[ClassId]
         requires { space < length self.now.spaces }
         ensures { result.now ≡ classes_in self.now space }
@@ -347,7 +349,7 @@ impl Schema {
         self.spaces.as_slice()[space as usize].classes.as_slice()
     }
 
-    /// Whether a space admits units of a class: it descends from one of the classes that the space lists. A number
+    /// Returns whether a space admits units of a class: the class descends from a class that the space lists. A number
     /// without a space admits none.
     pub fn allowed(&self, space: SpaceId, class: ClassId) -> bool
         ensures computed { result ≡ allowed self.now space class }
@@ -359,7 +361,7 @@ impl Schema {
         }
     }
 
-    /// The schema with these spaces in place of its own.
+    /// Returns the schema with these spaces instead of its own.
     pub(crate) fn with_spaces(self, spaces: Table<Space>) -> Schema
         requires { AreSpaces self spaces }
         ensures { result ≡ record self { spaces = spaces } }
@@ -369,10 +371,10 @@ impl Schema {
         schema
     }
 
-    /// Does nothing, and says what holds of every schema: class 0 is `focus`; label sets, labels, classes, slots,
-    /// spaces and dimensions have names, within their limits, and numbers that are in range; parents are earlier; a
-    /// slot is among those of a class exactly where the class descends from the one that declares it, and no two of
-    /// them have one name; a slot can hold its default; inverses lead back; and the classes of a space have the slots
+    /// Does nothing, but shows proofs what holds of every schema. Class 0 is `focus`. Label sets, labels, classes,
+    /// slots, spaces and dimensions have names, are within their limits, and refer to numbers in range. Parents are
+    /// earlier. A class has a slot exactly if it descends from the class that declares the slot, and no two slots of a
+    /// class have the same name. A slot can hold its default. Inverses lead back. The classes of a space have the slots
     /// that its dimensions read.
     pub fn fits(&self)
         ensures { Fits self.now }
@@ -380,7 +382,7 @@ impl Schema {
         let _ = &self.slots;
     }
 
-    /// Whether another schema is the same one.
+    /// Returns whether two schemas are equal.
     pub fn same(&self, other: &Schema) -> bool
         ensures { IsTrue result ↔ (self.now ≡ other.now) }
     {

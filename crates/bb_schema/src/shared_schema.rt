@@ -1,4 +1,4 @@
-//! A schema that several parts of a program go by. The board keeps one, and the shell above it goes by the same.
+//! A schema that several parts of a program use. The board keeps one, and the shell above it uses the same.
 
 ghost use Rattle.std.specs.Prelude.{◌≡◌, IfOk};
 
@@ -13,7 +13,7 @@ pub struct SharedSchema {
     schema: Rc<Schema>,
 }
 
-// By hand, so that a proof meets one call where it is dropped, and not all parts of a schema.
+// By hand, so that proofs see a drop as one call, not one per part of a schema.
 impl Drop for SharedSchema {
     fn drop(self) {
         let SharedSchema { schema: _ } = self;
@@ -29,7 +29,7 @@ impl Model for SharedSchema {
 }
 
 impl SharedSchema {
-    /// A schema that can be shared.
+    /// Makes a schema that can be shared.
     pub fn new(alloc: Global, schema: Schema) -> Result<SharedSchema, Memory>
         ensures { IfOk result (λ shared. shared ≡ schema) }
     {
@@ -38,7 +38,7 @@ impl SharedSchema {
         })
     }
 
-    /// The schema, for one more owner.
+    /// Returns the schema for another owner.
     pub fn share(&self) -> Result<SharedSchema, Memory>
         ensures { IfOk result (λ shared. shared ≡ self.now) }
     {
@@ -47,7 +47,7 @@ impl SharedSchema {
         })
     }
 
-    /// The schema.
+    /// Returns the schema.
     pub fn get(&self) -> &Schema
         ensures { result.now ≡ self.now }
     {

@@ -3,15 +3,15 @@
 use bb_basis::{IdSet, Named, Table, Text};
 use bb_schema_classes::LabelSetId;
 
-/// The number of a space, in the order of the document.
+/// The number of a space, in document order.
 pub type SpaceId = u16;
 
-/// A dimension of a space, which reads the slot of its name: an enumerated one a label of a set, an ordered one a
-/// number or an interval.
+/// A dimension of a space. It reads the slot with its name: a label of a set if it is enumerated, a number or an
+/// interval if it is ordered.
 #[derive(PartialEq, Drop)]
 pub struct Dim {
     pub name: Text,
-    /// The label set of an enumerated dimension.
+    /// The label set of an enumerated dimension, `None` for an ordered one.
     pub set: Option<LabelSetId>,
 }
 
@@ -23,7 +23,7 @@ impl Named for Dim {
     }
 }
 
-/// A space, which admits units of its classes and of all classes below them.
+/// A space. It admits units of its classes and of all classes below them.
 #[derive(PartialEq, Drop)]
 pub struct Space {
     pub name: Text,

@@ -1,4 +1,4 @@
-//! The number of a unit, which all crates above name.
+//! The number of a unit. The crates above use it.
 
-/// The number of a unit, from 1. A number is never used again, and 0 names no unit.
+/// The number of a unit, from 1. Numbers are never reused, and 0 refers to no unit.
 pub type UnitId = u64;

@@ -1,4 +1,4 @@
--- The classes that a document's entries mean, one after another.
+-- The classes that a document's entries declare, one after another.
 use Rattle.std.specs.Prelude.{ℕ, not, ◌∷◌, [], ◌++◌, nat_le, List, map, length, position, Option, Some, None, Result, Ok, Err, pos, codes, true, if◌then◌else◌}
 use Rattle.std.specs.List.{list_any}
 use Rattle.std.specs.Str.{bytes_eq}
@@ -35,7 +35,7 @@ parent_number classes None = Ok None
 parent_number classes (Some name) =
     ok_or (position (bytes_eq name) (map (λ k. k.name) classes)) (here Unknown) >>= λ p. Ok (Some p)
 
--- the slots that a class has from its parent
+-- the slots that a class inherits from its parent
 abbrev pub inherited_slots : List Class → Option ℕ → List ℕ
 inherited_slots classes None = []
 inherited_slots classes (Some p) = slots_in classes p
@@ -44,14 +44,14 @@ inherited_slots classes (Some p) = slots_in classes p
 abbrev pub begun_class : SchemaDraft → Option ℕ → ClassDraft
 begun_class s parent = record { slots = s.slots; class_slots = inherited_slots s.classes parent }
 
--- the classes with one more, of which all slots were read
+-- the classes with another one, whose slots were all read
 abbrev pub with_class : SchemaDraft → List ℕ → Option ℕ → ClassDraft → SchemaDraft
 with_class s name parent own = record {
   classes = s.classes ++ record { name = name; parent = parent; slots = own.class_slots } ∷ [];
   slots = own.slots;
 }
 
--- the classes with one more, or what is wrong with it
+-- the classes with the entry's class added, or the entry's fault
 unfoldable pub class_after : List LabelSet → List ClassDeclaration → SchemaDraft → ClassDeclaration
     → Result SchemaDraft SchemaFault
 class_after sets all s entry =
@@ -63,7 +63,7 @@ class_after sets all s entry =
     try_fold_at (inside lists.Links) (link_after all entry.name (length s.classes)) 0 ordinary entry.links >>= λ own.
     Ok (with_class s entry.name parent own)
 
--- the classes that some entries of all mean, `focus` the first of them, and their slots
+-- the classes of these entries of all, `focus` the first of them, and their slots, or the first fault
 abbrev pub draft_of : List LabelSet → List ClassDeclaration → List ClassDeclaration → Result SchemaDraft SchemaFault
 draft_of sets all entries =
     try_fold_at inside_class (class_after sets all) 0 (record { classes = []; slots = [] }) entries

@@ -1,4 +1,4 @@
--- Faults of a schema: the numbers by which refusals name them, and their places.
+-- Faults of a schema: their numbers in refusals, and their places.
 use Rattle.std.specs.Prelude.{ℕ, ◌-◌}
 use Rattle.bb_schema_form.specs.Places.{inside_place}
 use Rattle.bb_schema_form.specs.declared.place.ListKey.{ListKey}
@@ -23,15 +23,15 @@ abbrev pub fault_number : SchemaFault → ℕ
 fault_number (At flaw place) = flaw_number flaw
 fault_number Memory = 9
 
--- the fault of what is read itself, and not of an entry of one of its lists
+-- the fault of the value that is being read, not of an entry of one of its lists
 abbrev pub here : SchemaFlaw → SchemaFault
 here flaw = At flaw Whole
 
--- the fault of an entry, its place seen from the value that lists the entry
+-- the fault of an entry, with its place seen from the value that lists the entry
 abbrev pub inside : ListKey → ℕ → SchemaFault → SchemaFault
 inside list index (At flaw place) = At flaw (inside_place list index place)
 inside list index Memory = Memory
 
--- the fault of the class of a number: `focus`, of number 0, has no entry in the document
+-- the fault of the class with a number; `focus`, number 0, has no entry in the document
 abbrev pub inside_class : ℕ → SchemaFault → SchemaFault
 inside_class number fault = inside Classes (number - 1) fault

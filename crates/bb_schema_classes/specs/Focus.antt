@@ -1,4 +1,4 @@
--- The built-in class, and its slots: each walk leaves it as the first one, and its slots as the first ones.
+-- The built-in class and its slots, which are the first class and the first slots in every result of a walk.
 use Rattle.std.specs.Prelude.{pos, true, List, [], ◌∷◌, None, codes}
 use Rattle.bb_schema_classes.specs.declared.class.Class.{Class}
 use Rattle.bb_schema_classes.specs.declared.value.Value.TheVariants.{Int, Text, Bool as Truth}

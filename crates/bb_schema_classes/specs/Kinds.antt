@@ -4,7 +4,7 @@ use Rattle.bb_schema_classes.specs.declared.value.Value.TheVariants.{Int, Text, 
 use Rattle.bb_schema_classes.specs.declared.kind.Kind.{Kind}
 use Rattle.bb_schema_classes.specs.declared.kind.Kind.TheVariants as kinds
 
--- the kind of a value: that of the slots that can hold it
+-- the kind of the slots that can hold the value
 abbrev pub kind_of_value : Value → Kind
 kind_of_value (Int z) = kinds.Int
 kind_of_value (Text t) = kinds.Text

@@ -1,4 +1,4 @@
--- The label sets that a document's entries mean, one after another.
+-- The label sets that a document's entries declare, one after another.
 use Rattle.std.specs.Prelude.{ℕ, not, ◌∷◌, [], ◌++◌, nat_le, List, map, length, Result, Ok, Err, if◌then◌else◌}
 use Rattle.std.specs.List.{list_any}
 use Rattle.std.specs.Str.{bytes_eq}
@@ -13,7 +13,7 @@ use Rattle.bb_schema_classes.specs.declared.fault.SchemaFlaw.TheVariants.{Name, 
 use Rattle.bb_schema_classes.specs.declared.label_set.LabelSet.{LabelSet}
 use Rattle.bb_basis.specs.Names.{is_name}
 
--- the labels of a set with one more, or what is wrong with it
+-- the labels of a set with the name added, or the name's fault
 unfoldable pub label_after : List (List ℕ) → List ℕ → Result (List (List ℕ)) SchemaFault
 label_after labels name =
     if not (is_name name) then Err (here Name)
@@ -21,7 +21,7 @@ label_after labels name =
     else if nat_le LABEL_LIMIT (length labels) then Err (here Limit)
     else Ok (labels ++ name ∷ [])
 
--- the label sets with one more
+-- the label sets with the entry's set added, or the entry's fault
 unfoldable pub label_set_after : List LabelSet → LabelSetDeclaration → Result (List LabelSet) SchemaFault
 label_set_after sets entry =
     if not (is_name entry.name) then Err (here Name)

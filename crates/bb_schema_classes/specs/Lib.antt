@@ -10,27 +10,27 @@ pub use Rattle.bb_schema_form.specs.Numbers
 pub mod Values
 -- parents, which class descends from which, and the slots of a class
 pub mod Inheritance
--- which class descends from which, by numbers: spans of a walk over the classes
+-- spans: which class descends from which, by its number in a walk over the classes
 pub mod Spans
 -- the built-in class and its slots
 pub mod Focus
 -- lists of names
 pub mod Naming
--- the label sets that entries mean
+-- the label sets that entries declare
 pub mod LabelReading
 -- classes that are being read
 pub mod Drafts
--- the ordinary slots that entries mean
+-- the ordinary slots that entries declare
 pub mod SlotReading
--- the link slots that entries mean
+-- the link slots that entries declare
 pub mod LinkReading
--- the classes that entries mean
+-- the classes that entries declare
 pub mod ClassReading
--- links with numbers in place of names
+-- links with numbers instead of names
 pub mod Resolution
--- what a walk over label sets and classes leaves
+-- the result of a walk over label sets and classes
 pub mod Walk
--- what holds of what a walk leaves
+-- the properties of every result of a walk
 pub mod Fits
--- relations that only invariants and proofs speak of
+-- relations that only invariants and proofs use
 pub mod proving

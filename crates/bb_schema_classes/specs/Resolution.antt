@@ -1,4 +1,4 @@
--- The links of slots, with numbers in place of names.
+-- The links of slots, with numbers instead of names.
 use Rattle.std.specs.Prelude.{List, map, find, position, Result, Ok}
 use Rattle.std.specs.Str.{bytes_eq}
 use Rattle.bb_basis.specs.Results.{◌>>=◌, ok_or}
@@ -12,7 +12,7 @@ use Rattle.bb_schema_classes.specs.declared.draft.LinkDraft.{LinkDraft}
 use Rattle.bb_schema_classes.specs.Inheritance.{slots_in}
 use Rattle.bb_schema_classes.specs.Drafts.{draft_has_name}
 
--- a link by the numbers of its class and of its inverse, which is a slot of that class
+-- a link with the numbers of its target class and of its inverse, which is a slot of that class
 unfoldable pub resolved_link : List Class → List Draft → LinkDraft → Result Link SchemaFault
 resolved_link classes slots link = do
   c ← ok_or (position (bytes_eq link.to) (map (λ k. k.name) classes)) (here Unknown)

@@ -1,4 +1,4 @@
--- The ordinary slots that a class's entries mean, one after another.
+-- The ordinary slots that a class's entries declare, one after another.
 use Rattle.std.specs.Prelude.{ℕ, Bool, false, not, ◌||◌, nat_lt, List, map, length, slice_get, position, Option, Some, None, option_map, option_and_then, Result, Ok, Err, if◌then◌else◌}
 use Rattle.std.specs.Str.{bytes_eq}
 use Rattle.bb_basis.specs.Results.{◌>>=◌, ok_or}
@@ -14,16 +14,16 @@ use Rattle.bb_schema_classes.specs.declared.draft.DraftContent.TheVariants.{Defa
 use Rattle.bb_basis.specs.Names.{is_name}
 use Rattle.bb_schema_classes.specs.Drafts.{ClassDraft, has_slot_named, is_full, with_slot}
 
--- the number of the label that is the default: none given is the set's first
+-- the number of the default label; none given is the set's first label
 abbrev pub chosen_label : List (List ℕ) → Option (List ℕ) → Option ℕ
 chosen_label labels None = option_map (λ first. 0) (slice_get labels 0)
 chosen_label labels (Some name) = position (bytes_eq name) labels
 
--- the number of the label set of a name
+-- the number of the label set with a name
 abbrev pub label_set_number : List LabelSet → List ℕ → Option ℕ
 label_set_number sets name = position (bytes_eq name) (map (λ s. s.name) sets)
 
--- the label of a set that is the default, or Unknown where the set or the label is not there
+-- the default label of a slot, or Unknown if the set or the label is missing
 unfoldable pub label_value : List LabelSet → List ℕ → Option (List ℕ) → Result Value SchemaFault
 label_value sets of given = do
   set ← ok_or (label_set_number sets of) (here Unknown)
@@ -38,7 +38,7 @@ default_value sets (bool_default b) = Ok (Truth b)
 default_value sets (label_default of given) = label_value sets of given
 default_value sets (interval_default low high) = Ok (Interval low high)
 
--- a text past the limit
+-- whether the default is a text longer than the limit
 abbrev pub is_long : DefaultDeclaration → Bool
 is_long (int_default z) = false
 is_long (text_default t) = nat_lt TEXT_LIMIT (length t)
@@ -46,7 +46,7 @@ is_long (bool_default b) = false
 is_long (label_default of given) = false
 is_long (interval_default low high) = false
 
--- the slots with one more of the class of number owner, or what is wrong with it
+-- the class with number owner, with the entry's slot added, or the entry's fault
 unfoldable pub slot_after : List LabelSet → ℕ → ClassDraft → SlotDeclaration → Result ClassDraft SchemaFault
 slot_after sets owner g entry =
     if not (is_name entry.name) then Err (here Name)

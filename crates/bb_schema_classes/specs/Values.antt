@@ -13,13 +13,13 @@ use Rattle.bb_schema_classes.specs.declared.value.Value.TheVariants.{Int, Text, 
 abbrev pub label_counts : List LabelSet → List ℕ
 label_counts sets = map (λ s. length s.values) sets
 
--- the set of the number is there, and has a label of the number
+-- whether the set with the number exists and has the label with the number
 abbrev pub is_label : List ℕ → ℕ → ℕ → Bool
 is_label counts set label = option_map_or (λ count. nat_lt label count) (slice_get counts set) false
 
--- whether a slot of the kind can hold the value, where the label sets have these numbers of labels: numbers are of 64
--- bits, a text has no more bytes than the limit, a label is of the kind's set and there, an interval's first number is
--- no greater than its second, and a link slot holds no value
+-- whether a slot of the kind can hold the value, if the label sets have these numbers of labels: numbers are of 64
+-- bits, a text has at most as many bytes as the limit, a label exists and belongs to the kind's set, the first number
+-- of an interval is not greater than the second, and a link slot holds no value
 unfoldable pub value_fits : List ℕ → Kind → Value → Bool
 value_fits counts kinds.Int (Int z) = is_i64 z
 value_fits counts kinds.Text (Text t) = nat_le (length t) TEXT_LIMIT

@@ -1,4 +1,4 @@
--- What a walk over the label sets and classes of a document leaves, or its first fault.
+-- The result of a walk over the label sets and classes of a document, or its first fault.
 use Rattle.std.specs.Prelude.{◌∷◌, [], List, Result, Ok}
 use Rattle.bb_basis.specs.Results.{◌>>=◌, try_fold_at}
 use Rattle.bb_schema_form.specs.declared.place.ListKey.TheVariants as lists

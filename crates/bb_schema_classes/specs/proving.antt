@@ -1,5 +1,5 @@
--- Relations that only the invariants of models and the proofs speak of.
--- what an index of entries by name keeps
+-- Relations that only the invariants of models and the proofs use.
+-- indexes of entries by name
 pub mod Entries
--- classes that come into a walk one after another
+-- classes that are inserted into a walk one after another
 pub mod SpanWalk

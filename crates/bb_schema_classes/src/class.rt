@@ -1,4 +1,4 @@
-//! Classes and their inheritance. The walk makes them, and a schema keeps them in a table.
+//! Classes and their inheritance. `Walked::of` makes them, and a schema keeps them in a table.
 
 ghost use Rattle.std.specs.Prelude.{◌≡◌};
 ghost use Rattle.bb_schema_classes.specs.Inheritance.{parent_of};
@@ -6,7 +6,7 @@ ghost use Rattle.bb_schema_classes.specs.Inheritance.{parent_of};
 use crate::kind::SlotId;
 use bb_basis::{Items, Named, Text};
 
-/// The number of a class: 0 is `focus`, the declared ones follow in the order of their document.
+/// The number of a class. 0 is `focus`; declared classes follow in document order.
 pub type ClassId = u16;
 
 /// A class of a schema.
@@ -14,7 +14,7 @@ pub type ClassId = u16;
 pub struct Class {
     pub name: Text,
     pub parent: Option<ClassId>,
-    /// All its slots: the inherited ones, then its own ordinary ones, then its own link slots.
+    /// All slots of the class: inherited ones, then its own ordinary slots, then its own link slots.
     pub slots: Items<SlotId>,
 }
 
@@ -26,7 +26,7 @@ impl Named for Class {
     }
 }
 
-/// The parent of a class, `None` where there is none.
+/// Returns the parent of a class, `None` if it has none or if no class has the number.
 pub fn parent(classes: &[Class], class: ClassId) -> Option<ClassId>
     ensures { result ≡ parent_of classes.now class }
 {

@@ -1,5 +1,5 @@
-//! Why a document means no schema. `Walked::of` returns it, and `Schema::read` of `bb_schema`, from which the faults of
-//! the form and of spaces come.
+//! Why a document does not declare a schema. `Walked::of` returns this, and so does `Schema::read` of `bb_schema`,
+//! which adds the faults of the form and of spaces.
 
 ghost use Rattle.std.specs.Prelude.{◌≡◌};
 ghost use Rattle.bb_basis.specs.Results.{map_err};
@@ -10,19 +10,19 @@ use bb_schema_form::{DocumentPlace, ListKey};
 use std::alloc::{AllocError, AllocFailed};
 use thiserror::Error;
 
-/// What is wrong with a document, or with an entry of it.
+/// What is wrong with a document or one of its entries.
 #[derive(Clone, Copy, Debug, PartialEq, Eq, Error)]
 pub enum SchemaFlaw {
     /// The text is not JSON.
     #[error("the schema is not JSON")]
     Json,
-    /// The JSON does not have the form of a schema: another key, a missing one, or a value of another form.
+    /// The JSON does not have the form of a schema: an unknown key, a missing one, or a value of another form.
     #[error("the schema has not the form of a schema")]
     Shape,
-    /// An entry declares a text that is no name.
+    /// An entry declares a text that is not a name.
     #[error("a declared name is not a name")]
     Name,
-    /// An entry declares a name that is declared already.
+    /// An entry declares a name that is already declared, or a space lists a class twice.
     #[error("a name is declared twice")]
     Twice,
     /// An entry refers to something that is not declared.
@@ -34,13 +34,13 @@ pub enum SchemaFlaw {
     /// A class of a space lacks a slot for a dimension.
     #[error("a class of a space lacks a slot of a dimension")]
     Dimension,
-    /// The entry is past the limit of its list.
+    /// The entry is past a limit: of its list, of the slots of a class or of all classes, or of a text.
     #[error("too many entries")]
     Limit,
 }
 
 impl SchemaFlaw {
-    /// The number by which a refusal line names the flaw, from 1 to 8.
+    /// Returns the flaw's number in refusal lines, from 1 to 8.
     pub fn number(self) -> u8
         ensures { result ≡ flaw_number self }
     {
@@ -57,10 +57,10 @@ impl SchemaFlaw {
     }
 }
 
-/// Why a document means no schema: the first flaw that its reading meets, and the entry at which it stands.
+/// Why a document does not declare a schema: the first flaw in reading order, and the entry that has it.
 #[derive(Clone, Copy, Debug, PartialEq, Eq, Error)]
 pub enum SchemaFault {
-    /// The flaw of the entry at the place; that of a text that is not JSON is of the whole document.
+    /// The flaw of the entry at the place. For a text that is not JSON, the place is the whole document.
     #[error("{flaw}")]
     At {
         flaw: SchemaFlaw,
@@ -72,7 +72,7 @@ pub enum SchemaFault {
 }
 
 impl SchemaFault {
-    /// The number by which a refusal line names the fault, from 1 to 9.
+    /// Returns the fault's number in refusal lines, from 1 to 9.
     pub fn number(self) -> u8
         ensures { result ≡ fault_number self }
     {
@@ -82,7 +82,7 @@ impl SchemaFault {
         }
     }
 
-    /// The fault of what is read itself, and not of an entry of one of its lists.
+    /// Makes the fault of the value that is being read, not of an entry of one of its lists.
     pub fn here(flaw: SchemaFlaw) -> SchemaFault
         ensures { result ≡ here flaw }
     {
@@ -92,7 +92,7 @@ impl SchemaFault {
         }
     }
 
-    /// The fault of an entry, its place seen from the value that lists the entry.
+    /// Returns the fault of an entry, with its place seen from the value that lists the entry.
     pub fn inside(self, list: ListKey, index: usize) -> SchemaFault
         ensures { result ≡ inside list index self }
     {
@@ -106,7 +106,7 @@ impl SchemaFault {
     }
 }
 
-/// The answer of an entry of a list, a fault at its place in that list.
+/// Returns the result of reading an entry of a list, with a fault at the entry's place in that list.
 pub fn placed<T>(
     answer: Result<T, SchemaFault>,
     list: ListKey,

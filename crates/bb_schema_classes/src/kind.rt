@@ -1,10 +1,10 @@
-//! What a slot can hold, and the numbers of slots. Values have a kind, and links are resolved to one.
+//! The kinds of slots, and the numbers of slots. A slot's kind is that of its default, or its link.
 
 use crate::class::ClassId;
 use crate::label_set::LabelSetId;
 
-/// The number of a slot: 0 to 3 are those of `focus`, then class by class the own ordinary slots and the own link
-/// slots. An inherited slot keeps its number.
+/// The number of a slot. 0 to 3 are the slots of `focus`; then, class by class, the ordinary slots and the link slots
+/// that the class declares. An inherited slot keeps its number.
 pub type SlotId = u16;
 
 /// What a slot can hold.
@@ -19,13 +19,13 @@ pub enum Kind {
     Link(Link),
 }
 
-/// A link slot leads to units of a class. Its inverse is a slot of that class, and leads back.
+/// A link slot leads to units of a class. Its inverse is a slot of that class and leads back.
 #[derive(Clone, Copy, Debug, PartialEq, Drop)]
 pub struct Link {
     pub to: ClassId,
-    /// Whether it may hold more than one unit.
+    /// Whether the slot may hold more than one unit.
     pub many: bool,
     pub inverse: SlotId,
-    /// Whether a unit owns those that it holds, so that they are deleted with the unit.
+    /// Whether a unit owns the units in the slot, so that they are deleted with it.
     pub owns: bool,
 }

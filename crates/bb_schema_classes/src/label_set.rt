@@ -8,13 +8,13 @@ use bb_basis::{Named, Table, Text};
 use std::alloc::{AllocError, Global};
 use std::marker::Model;
 
-/// The number of a label set, in the order of the document.
+/// The number of a label set, in document order.
 pub type LabelSetId = u16;
 
 /// The number of a label in its set.
 pub type LabelId = u8;
 
-/// The greatest number of labels of a set.
+/// The maximum number of labels of a set.
 pub(crate) const LABEL_LIMIT: usize = 256;
 
 /// The labels of a set, each found by its text.
@@ -52,7 +52,7 @@ impl PartialEq for Labels {
 impl Labels {
     ghost use Rattle.bb_schema_classes.specs.declared.label_set.TheConstants.{LABEL_LIMIT};
 
-    /// An empty list of labels. It allocates nothing.
+    /// Returns an empty list of labels. Allocates nothing.
     pub(crate) fn new(alloc: Global) -> Labels
         ensures { result ≡ [] }
     {
@@ -61,21 +61,21 @@ impl Labels {
         }
     }
 
-    /// The number of labels.
+    /// Returns the number of labels.
     pub fn len(&self) -> usize
         ensures { result ≡ length self.now }
     {
         self.table.len()
     }
 
-    /// The label of a number.
+    /// Returns the label with a number, if there is one.
     pub fn get(&self, label: LabelId) -> Option<&str>
         ensures { option_map (λ t. t.now) result ≡ slice_get self.now label }
     {
         Some(self.table.get(label as usize)?.as_str())
     }
 
-    /// The number of a label.
+    /// Returns the number of a label, if the list has it.
     pub fn index_of(&self, label: &str) -> Option<LabelId>
         ensures { result ≡ position (bytes_eq label.now) self.now }
     {
@@ -83,14 +83,14 @@ impl Labels {
         Some(index as LabelId)
     }
 
-    /// Whether the label is in the list.
+    /// Returns whether the list has the label.
     pub(crate) fn contains(&self, label: &str) -> bool
         ensures { result ≡ list_any (bytes_eq label.now) self.now }
     {
         self.table.contains(label)
     }
 
-    /// Appends a new label. An error changes nothing.
+    /// Appends a new label. On an error, nothing changes.
     pub(crate) fn push(&mut self, alloc: Global, label: Text) -> Result<(), AllocError>
         requires room { length self.old < LABEL_LIMIT }
         requires fresh { list_any (bytes_eq label) self.old ≡ false }

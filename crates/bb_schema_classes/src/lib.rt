@@ -1,5 +1,5 @@
 //! The classes of a schema: label sets, classes with their inheritance, values, and slots as their entries declare
-//! them. `Walked::of` reads them, up to the first fault.
+//! them. `Walked::of` reads these from a document's entries, or returns the first fault.
 #![tactic(auto)]
 
 mod class;

@@ -1,4 +1,4 @@
-//! `Walked::of`: one walk over the label sets and classes of a document. `bb_schema` reads the rest of it.
+//! `Walked::of`: one walk over the label sets and classes of a document. `bb_schema` calls it, then reads the spaces.
 
 ghost use Rattle.std.specs.Prelude.{IfOk, All, map};
 ghost use Rattle.bb_basis.specs.Results.{Gives};
@@ -30,7 +30,7 @@ use labels::label_sets_of;
 pub use resolve::resolve_link;
 use std::alloc::Global;
 
-/// The label sets and the classes of a document, as a walk over their entries leaves them: links still have names.
+/// The label sets and classes of a document after a walk over their entries. Links still have names.
 #[derive(Drop)]
 pub struct Walked {
     pub label_sets: Table<LabelSet>,
@@ -38,10 +38,10 @@ pub struct Walked {
 }
 
 impl Walked {
-    /// What the walk over the entries leaves, `focus` before all classes, or its first fault: label sets with their
-    /// labels, then classes with their slots and then links. A fault has the place of its entry, and at each entry the
-    /// checks come in the order of the faults' numbers. `Memory` may come at any point. The intervals of the entries
-    /// are in order, as `Document::read` gives them.
+    /// Returns the result of the walk over the entries, with `focus` before all other classes, or the first fault. The
+    /// order is label sets with their labels, then classes with their slots and then links. A fault has its entry as
+    /// place, and at each entry checks are made in the order of the faults' numbers. `Memory` may occur at any point.
+    /// The intervals of the entries must be in order, as `Document::read` ensures.
     #[tactic(auto, unfolding(crate::specs::Walk::walk_of))]
     pub fn of(
         alloc: Global,

@@ -1,5 +1,5 @@
-//! Spans: which class descends from which, by numbers alone. A schema keeps a span for each of its classes, so that it
-//! need not climb from a class to its parents.
+//! Spans, which show by two comparisons of numbers whether one class descends from another. A schema keeps a span for
+//! each of its classes, so that it need not climb from a class to its parents.
 
 ghost use Rattle.std.specs.Prelude.{◌≡◌, ◌≤◌, ◌<◌, ◌↔◌, length, map, slice_get, All, IfOk, IsTrue};
 ghost use Rattle.bb_schema_classes.specs.Inheritance.{ParentsAreEarlier};
@@ -10,25 +10,25 @@ ghost use Rattle.bb_schema_classes.specs.proving.SpanWalk.{moved, moved_span, pl
 use crate::class::{Class, ClassId};
 use std::alloc::{AllocError, Global};
 
-/// The numbers of a class and its descendants in a walk over all classes, which meets a class right before its
+/// The numbers of a class and its descendants in a walk over all classes. The walk visits a class right before its
 /// descendants.
 #[derive(Clone, Copy, Debug, PartialEq, Eq)]
 pub struct Span {
     /// The class's own number.
     pub first: u16,
-    /// The number after its last descendant's.
+    /// The number after its last descendant's, or after its own if it has no descendant.
     pub end: u16,
 }
 
 impl Span {
-    /// Whether the number of another class is in the span.
+    /// Returns whether the number of another class is in the span.
     pub fn holds(self, other: Span) -> bool
         ensures { IsTrue result ↔ LiesIn other self }
     {
         self.first <= other.first && other.first < self.end
     }
 
-    // The numbers of a span, once another number has come in at a place.
+    // The span after a number was inserted at a place.
     fn moved(self, at: u16) -> Span
         requires { IsWithin CLASS_LIMIT self }
         ensures { result ≡ moved_span at self }
@@ -40,7 +40,7 @@ impl Span {
     }
 }
 
-// A number, once another has come in at a place.
+// A number after another was inserted at a place.
 fn moved(number: u16, at: u16) -> u16
     requires { number ≤ CLASS_LIMIT }
     ensures { result ≡ moved at number }
@@ -51,7 +51,7 @@ fn moved(number: u16, at: u16) -> u16
     number + 1
 }
 
-// The place right after a parent's, or the first of all where there is no parent.
+// The place right after the parent's, or the first place if there is no parent.
 fn place_of(spans: &[Span], parent: Option<ClassId>) -> u16
     requires { All (IsWithin CLASS_LIMIT) spans.now }
     ensures { result ≡ place_of spans.now parent }
@@ -65,7 +65,7 @@ fn place_of(spans: &[Span], parent: Option<ClassId>) -> u16
     }
 }
 
-// Moves the numbers of all spans, as another number comes in at a place.
+// Moves the numbers of all spans to insert a number at a place.
 fn make_room(spans: &mut Vec<Span>, at: u16)
     requires { All (IsWithin CLASS_LIMIT) spans.old.items }
     ensures { spans.new.items ≡ map (moved_span at) spans.old.items }
@@ -75,7 +75,7 @@ fn make_room(spans: &mut Vec<Span>, at: u16)
     }
 }
 
-// Adds a class, right after its parent and before what else descends from it.
+// Adds a class right after its parent, before the parent's other descendants.
 #[tactic(auto, unfolding(crate::specs::proving::SpanWalk::with_class))]
 fn add_class(spans: &mut Vec<Span>, parent: Option<ClassId>) -> Result<(), AllocError>
     requires { All (IsWithin CLASS_LIMIT) spans.old.items }
@@ -90,14 +90,14 @@ fn add_class(spans: &mut Vec<Span>, parent: Option<ClassId>) -> Result<(), Alloc
     Ok(())
 }
 
-/// The span of a class, `None` where no class has the number.
+/// Returns the span of a class, `None` if no class has the number.
 pub fn span_at(spans: &[Span], class: ClassId) -> Option<Span>
     ensures { result ≡ slice_get spans.now class }
 {
     Some(*spans.get(class as usize)?)
 }
 
-/// The spans of classes, in the same order.
+/// Returns the spans of classes, in the same order.
 pub fn spans_of(alloc: Global, classes: &[Class]) -> Result<Vec<Span>, AllocError>
     requires few { length classes.now ≤ CLASS_LIMIT }
     requires parents { ParentsAreEarlier classes.now }

@@ -1,4 +1,4 @@
-//! The value of an ordinary slot. Defaults of a schema, and the units above, hold them.
+//! The values of ordinary slots. They are a schema's defaults and the contents of units.
 
 ghost use Rattle.std.specs.Prelude.{◌≡◌};
 ghost use Rattle.bb_schema_classes.specs.Kinds.{kind_of_value};
@@ -9,7 +9,7 @@ use crate::label_set::{LabelId, LabelSetId};
 use bb_basis::Text;
 use std::alloc::AllocError;
 
-/// The greatest length of a text in a slot, in bytes.
+/// The maximum length of a text in a slot, in bytes.
 pub const TEXT_LIMIT: usize = 65_535;
 
 /// The value of an ordinary slot.
@@ -21,7 +21,7 @@ pub enum Value {
     Bool(bool),
     /// A label of a set.
     Label(LabelSetId, LabelId),
-    /// An interval from the first number to the second, which is no less.
+    /// An interval from the first number to the second, which is not less.
     Interval(i64, i64),
 }
 
@@ -41,7 +41,7 @@ impl Clone for Value {
     }
 }
 
-// Whether a label set, of which the number of labels is known, has a label.
+// Whether a label set exists and has a label, given the number of labels of each set.
 fn is_label(label_counts: &[usize], set: LabelSetId, label: LabelId) -> bool
     ensures { result ≡ is_label label_counts.now set label }
 {
@@ -52,7 +52,7 @@ fn is_label(label_counts: &[usize], set: LabelSetId, label: LabelId) -> bool
 }
 
 impl Value {
-    /// The kind of the slots that can hold the value.
+    /// Returns the kind of the slots that can hold the value.
     pub fn kind(&self) -> Kind
         ensures { result ≡ kind_of_value self.now }
     {
@@ -65,14 +65,14 @@ impl Value {
         }
     }
 
-    /// Whether a slot of a kind can hold the value. `label_counts` has the number of labels of each set.
+    /// Returns whether a slot of a kind can hold the value. `label_counts` has the number of labels of each set.
     #[tactic(auto, unfolding(crate::specs::Values::value_fits))]
     pub fn fits(&self, label_counts: &[usize], kind: Kind) -> bool
         ensures { result ≡ value_fits label_counts.now kind self.now }
     {
         match (kind, self) {
             (Kind::Int, Value::Int(number)) => {
-                // Read, so that the proof knows that it is of 64 bits.
+                // Reading it shows the proof that it is of 64 bits.
                 let _number = *number;
                 true
             }

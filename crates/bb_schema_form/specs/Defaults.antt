@@ -1,10 +1,10 @@
--- Defaults whose numbers are of 64 bits, an interval's in order, which the form of a document asks for.
+-- Sound defaults: numbers are of 64 bits, and those of an interval in order. The form of a document ensures it.
 use Rattle.std.specs.Prelude.{◌&&◌, IsTrue, All, int_le}
 use Rattle.bb_schema_form.specs.Numbers.{is_i64}
 use Rattle.bb_schema_form.specs.Document.{Declarations, ClassDeclaration, DefaultDeclaration, int_default, text_default}
 use Rattle.bb_schema_form.specs.Document.{bool_default, label_default, interval_default}
 
--- a default whose numbers are of 64 bits, an interval's first no greater than its second
+-- a default whose numbers are of 64 bits; the first number of an interval is not greater than the second
 abbrev pub IsSound : DefaultDeclaration → Type 0
 IsSound (int_default z) = IsTrue (is_i64 z)
 IsSound (text_default t) = Unit {0}

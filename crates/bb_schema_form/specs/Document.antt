@@ -1,4 +1,4 @@
--- What a document declares: plain lists, wherever they lie in memory.
+-- What a document declares, as plain lists: where they are in memory is left out.
 use Rattle.std.specs.Prelude.{ℕ, ℤ, Bool, List, map, Option, option_map, string_bytes}
 use Rattle.bb_schema_form.specs.declared.document.LabelSetEntry.{LabelSetEntry}
 use Rattle.bb_schema_form.specs.declared.document.ClassEntry.{ClassEntry}
@@ -15,7 +15,7 @@ pub record LabelSetDeclaration : Type 0 where
   pub name : List ℕ
   pub values : List (List ℕ)
 
--- a default, and by it the kind of its slot; a label is of a set, and none given is the set's first
+-- a default, which implies the kind of its slot; a label belongs to a set, and none given is the set's first
 pub data DefaultDeclaration : Type 0 where
   int_default : ℤ → DefaultDeclaration
   text_default : List ℕ → DefaultDeclaration
@@ -28,8 +28,8 @@ pub record SlotDeclaration : Type 0 where
   pub name : List ℕ
   pub default : DefaultDeclaration
 
--- a link slot: the class it leads to, whether it holds many, the slot that leads back, and whether a unit owns those
--- that the slot holds
+-- a link slot: its target class, whether it holds many units, its inverse slot, and whether a unit owns the units in
+-- the slot
 pub record LinkDeclaration : Type 0 where
   pub name : List ℕ
   pub to : List ℕ
@@ -44,7 +44,7 @@ pub record ClassDeclaration : Type 0 where
   pub slots : List SlotDeclaration
   pub links : List LinkDeclaration
 
--- a dimension: an enumerated one is of a label set, an ordered one of none
+-- a dimension: an enumerated one has a label set, an ordered one has none
 pub record DimDeclaration : Type 0 where
   pub name : List ℕ
   pub of : Option (List ℕ)
@@ -61,7 +61,7 @@ pub record Declarations : Type 0 where
   pub classes : List ClassDeclaration
   pub spaces : List SpaceDeclaration
 
--- what an entry means
+-- what each entry declares
 abbrev pub label_set_declaration : LabelSetEntry → LabelSetDeclaration
 label_set_declaration e = record { name = string_bytes e.name; values = map string_bytes e.values.items }
 

@@ -6,11 +6,11 @@ use Rattle.bb_schema_form.specs.declared.place.ListKey.{ListKey}
 use Rattle.bb_schema_form.specs.declared.place.DocumentPlace.TheVariants.{Whole}
 use Rattle.bb_schema_form.specs.Places.{inside_place}
 
--- the fault of a value whose own form is wrong
+-- the fault of a value with a wrong form of its own
 abbrev pub misshapen : DocumentFault
 misshapen = Shape Whole
 
--- the fault of an entry, its place seen from the value that lists the entry
+-- the fault of an entry, with its place seen from the value that lists the entry
 abbrev pub inside : ListKey → ℕ → DocumentFault → DocumentFault
 inside list index Json = Json
 inside list index (Shape place) = Shape (inside_place list index place)

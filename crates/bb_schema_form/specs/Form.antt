@@ -1,4 +1,4 @@
--- The form of a schema's document: which JSON it is and what it declares, before any name in it is looked at.
+-- The form of a schema's document: which JSON has it and what that declares, before any name in it is looked up.
 use Rattle.std.specs.Prelude.{ℕ, ℤ, pos, Bool, false, List, [], ◌∷◌, Option, Some, None, option_map, option_and_then}
 use Rattle.std.specs.Prelude.{Result, Ok, Err, codes, int_le, if◌then◌else◌}
 use Rattle.std.specs.Option.{option_map_or}
@@ -17,16 +17,16 @@ use Rattle.bb_schema_form.specs.Document.{Declarations, LabelSetDeclaration, Cla
 use Rattle.bb_schema_form.specs.Document.{DefaultDeclaration, int_default, text_default, bool_default, label_default}
 use Rattle.bb_schema_form.specs.Document.{interval_default, LinkDeclaration, SpaceDeclaration, DimDeclaration}
 
--- a text of a list
+-- a text in a list
 unfoldable pub text_of : Data → Result (List ℕ) DocumentFault
 text_of d = ok_or (as_str d) misshapen
 
--- what is made of the texts of a list that has one at least
+-- the label set with these texts, of which there must be at least one
 unfoldable pub label_set_of_texts : List ℕ → List (List ℕ) → Result LabelSetDeclaration DocumentFault
 label_set_of_texts name [] = Err misshapen
 label_set_of_texts name (t ∷ ts) = Ok (record { name = name; values = t ∷ ts })
 
--- a label set: a name and one value at least
+-- a label set: a name and at least one value
 unfoldable pub label_set_of : Data → Result LabelSetDeclaration DocumentFault
 label_set_of d = if is_object_with (codes "name" ∷ codes "values" ∷ []) d then (do
   name ← ok_or (text_at (codes "name") d) misshapen
@@ -34,7 +34,7 @@ label_set_of d = if is_object_with (codes "name" ∷ codes "values" ∷ []) d th
   values ← try_map_at (inside lists.Values) text_of 0 found
   label_set_of_texts name values) else Err misshapen
 
--- an array of two numbers, the first no greater than the second
+-- the two numbers of an array of exactly two, the first not greater than the second
 abbrev pub ends_of : List Data → Option (ℤ × ℤ)
 ends_of [] = None
 ends_of (a ∷ []) = None
@@ -46,7 +46,7 @@ ends_of (a ∷ b ∷ c ∷ ds) = None
 abbrev pub as_interval : Data → Option (ℤ × ℤ)
 as_interval d = option_and_then ends_of (as_list d)
 
--- the default of a slot of a kind without labels, as given, or the kind's own
+-- the default of a slot whose kind is not label: the given one, or the kind's own if none is given
 unfoldable pub plain_default_of : List ℕ → Option Data → Result DefaultDeclaration DocumentFault
 plain_default_of kind given =
     let number = option_map_or as_whole given (Some (pos 0)) in
@@ -59,13 +59,13 @@ plain_default_of kind given =
     else if bytes_eq kind (codes "interval") then ok_or (option_map (λ z. interval_default z.0 z.1) interval) misshapen
     else Err misshapen
 
--- the default of a label slot: none given is the first of its set
+-- the default of a label slot; none given is the first label of its set
 unfoldable pub label_default_of : List ℕ → Option Data → Result DefaultDeclaration DocumentFault
 label_default_of set given =
     let default = option_map_or (λ d. option_map (λ t. Some t) (as_str d)) given (Some None) in
     ok_or (option_map (label_default set) default) misshapen
 
--- the default of a slot: it is of a label set where its kind is label, and of none where it is another
+-- the default of a slot: kind label needs a label set, and no other kind may have one
 unfoldable pub default_of : List ℕ → Option (List ℕ) → Option Data → Result DefaultDeclaration DocumentFault
 default_of kind None given = plain_default_of kind given
 default_of kind (Some set) given = if bytes_eq kind (codes "label") then label_default_of set given else Err misshapen
@@ -104,7 +104,7 @@ class_of d = if is_object_with (codes "name" ∷ codes "parent" ∷ codes "slots
   links ← try_map_at (inside lists.Links) link_of 0 given_links
   Ok (record { name = name; parent = parent; slots = slots; links = links })) else Err misshapen
 
--- whether a kind of dimension goes with a label set, or with none
+-- whether the kind of a dimension fits its label set, or the lack of one
 abbrev pub is_dim_kind : List ℕ → Option (List ℕ) → Bool
 is_dim_kind kind None = bytes_eq kind (codes "ordered")
 is_dim_kind kind (Some set) = bytes_eq kind (codes "label")
@@ -117,7 +117,7 @@ dim_of d = if is_object_with (codes "name" ∷ codes "kind" ∷ codes "of" ∷ [
   set ← ok_or (optional_text_at (codes "of") d) misshapen
   if is_dim_kind kind set then Ok (record { name = name; of = set }) else Err misshapen) else Err misshapen
 
--- a space: its classes and its dimensions have to be there
+-- a space: its classes and its dimensions are required
 unfoldable pub space_of : Data → Result SpaceDeclaration DocumentFault
 space_of d = if is_object_with (codes "name" ∷ codes "classes" ∷ codes "dims" ∷ []) d then (do
   name ← ok_or (text_at (codes "name") d) misshapen
@@ -127,7 +127,7 @@ space_of d = if is_object_with (codes "name" ∷ codes "classes" ∷ codes "dims
   dims ← try_map_at (inside lists.Dims) dim_of 0 given_dims
   Ok (record { name = name; classes = classes; dims = dims })) else Err misshapen
 
--- the whole document: three lists, an absent one empty
+-- the whole document: three lists; an absent list is empty
 unfoldable pub declarations_of : Data → Result Declarations DocumentFault
 declarations_of d = if is_object_with (codes "labels" ∷ codes "classes" ∷ codes "spaces" ∷ []) d then (do
   given_sets ← ok_or (list_at (codes "labels") d) misshapen
@@ -138,7 +138,7 @@ declarations_of d = if is_object_with (codes "labels" ∷ codes "classes" ∷ co
   spaces ← try_map_at (inside lists.Spaces) space_of 0 given_spaces
   Ok (record { label_sets = label_sets; classes = classes; spaces = spaces })) else Err misshapen
 
--- what a text declares: the JSON, then its form
+-- what a text declares: first the JSON is read, then its form
 unfoldable pub document_of : List ℕ → Result Declarations DocumentFault
 document_of text = do
   json ← ok_or (read text) Json

@@ -2,7 +2,7 @@
 pub mod Numbers
 -- the form of JSON, piece by piece
 pub mod Shapes
--- where in a document a fault stands
+-- where in a document a fault is
 pub mod Places
 -- faults with their places
 pub mod Faults
@@ -10,9 +10,9 @@ pub mod Faults
 pub mod Document
 -- which JSON has the form of a schema's document, and what it declares
 pub mod Form
--- defaults of 64 bits and in order, which the form asks for
+-- defaults of 64 bits and in order, as the form requires
 pub mod Defaults
--- what the document of first units declares, and which JSON has its form
+-- what the document of initial units declares, and which JSON has its form
 pub mod UnitsDocument
--- what the quick way to the document of first units goes by
+-- the definitions for the fast reader of initial units
 pub mod Quick

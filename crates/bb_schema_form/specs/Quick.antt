@@ -1,4 +1,4 @@
--- The quick way to the document of first units: what JSON declares, by the values that `serde_json` makes of it.
+-- The fast reader of initial units: what JSON declares, through the values that `serde_json` makes of it.
 use Rattle.std.specs.Prelude.{ℕ, List, [], ◌∷◌, Option, Some, Result, Ok, codes, if◌then◌else◌}
 use Rattle.std.specs.Str.{bytes_eq}
 use Rattle.std.specs.declared.alloc.Global.{Global}
@@ -17,14 +17,14 @@ use Rattle.bb_schema_form.specs.Faults.{misshapen, inside}
 use Rattle.bb_schema_form.specs.Shapes.{as_list}
 use Rattle.bb_schema_form.specs.UnitsDocument.{UnitsDeclaration, units_declaration_of}
 
--- what serde_json makes of a value over borrowed text, if it makes anything of it
+-- the value that serde_json makes of a value over borrowed text, if it makes any
 abbrev pub read_of : Borrowed Global → Option Data
 read_of v = of_json (value_view v)
 
 abbrev pub seen : Value → Option Data
 seen v = Some (view v)
 
--- what JSON declares, by a form of data
+-- what JSON declares, read by a form
 abbrev pub declared_by : {X : Type 0} → (Data → Result X DocumentFault) → Json → Result X DocumentFault
 declared_by form j = ok_or (of_json j) faults.Json >>= form
 
@@ -38,7 +38,7 @@ entries_of list form j = do
   ds ← ok_or (as_list d) misshapen
   try_map_at (inside list) form 0 ds
 
--- what the last member under a key gives, where none of those under it has a fault; found, where there is none
+-- what the last member under a key gives, or found if the key is absent, or the first fault of a member under the key
 unfoldable pub listed : {X : Type 0} → List ℕ → (Json → Result X DocumentFault) → X → Members → Result X DocumentFault
 listed key gives found no_members = Ok found
 listed key gives found (member k j ms) = do

@@ -16,12 +16,12 @@ abbrev pub keys_of : Members → List (List ℕ)
 keys_of no_members = []
 keys_of (member k d ms) = k ∷ keys_of ms
 
--- an object each of whose keys is one of these
+-- whether the value is an object with no keys except these
 abbrev pub is_object_with : List (List ℕ) → Data → Bool
 is_object_with keys d =
     option_map_or (λ ms. list_all (λ k. list_any (bytes_eq k) keys) (keys_of ms)) (as_object d) false
 
--- a number that is an i64
+-- the number, if it is an i64
 abbrev pub as_whole : Data → Option ℤ
 as_whole d = option_and_then (λ z. if is_i64 z then Some z else None) (option_and_then as_i64 (as_number d))
 
@@ -49,6 +49,6 @@ required_list_at key d = option_and_then as_list (get key d)
 abbrev pub list_at : List ℕ → Data → Option (List Data)
 list_at key d = option_map_or as_list (get key d) (Some [])
 
--- the text under a key, if the key is there
+-- the text under a key; an absent one is Some None
 abbrev pub optional_text_at : List ℕ → Data → Option (Option (List ℕ))
 optional_text_at key d = option_map_or (λ found. option_map (λ t. Some t) (as_str found)) (get key d) (Some None)

@@ -1,4 +1,4 @@
--- The document of first units: what it declares, and its form (of this project).
+-- The document of initial units: what it declares, and its form.
 use Rattle.std.specs.Prelude.{ℕ, ℤ, Bool, List, [], ◌∷◌, map, Option, None, Some, option_map, Result, Ok, Err, codes, string_bytes, if◌then◌else◌}
 use Rattle.std.specs.Option.{option_map_or}
 use Rattle.serde_json.specs.Data.{Data, null, boolean, number, string, array, object, Members, no_members, member}
@@ -19,7 +19,7 @@ use Rattle.bb_schema_form.specs.declared.place.ListKey.TheVariants as lists
 use Rattle.bb_schema_form.specs.Shapes.{list_of, is_object_with, as_list, text_at, list_at}
 use Rattle.bb_schema_form.specs.Form.{text_of, ends_of}
 
--- a value that a first unit gives for a slot; a label is given as its text, and another value fits no slot
+-- a value that an initial unit gives for a slot; a label is given as its text, and other_value fits no slot
 pub data ValueDeclaration : Type 0 where
   int_value : ℤ → ValueDeclaration
   text_value : List ℕ → ValueDeclaration
@@ -32,19 +32,19 @@ pub record GivenDeclaration : Type 0 where
   pub slot : List ℕ
   pub value : ValueDeclaration
 
--- a first unit: its name, by which its document refers to it, its class, and what it gives for slots
+-- an initial unit: its name, by which its document refers to it, its class, and its values for slots
 pub record UnitDeclaration : Type 0 where
   pub name : List ℕ
   pub class : List ℕ
   pub slots : List GivenDeclaration
 
--- a link between first units: a unit, its link slot, and the unit that it leads to, by their names
+-- a link between initial units: a unit, its link slot, and the unit that it leads to, by their names
 pub record FirstLinkDeclaration : Type 0 where
   pub from : List ℕ
   pub slot : List ℕ
   pub to : List ℕ
 
--- a first unit that a space has as a member, by their names
+-- an initial unit that is a member of a space, by their names
 pub record MemberDeclaration : Type 0 where
   pub unit : List ℕ
   pub space : List ℕ
@@ -55,7 +55,7 @@ pub record UnitsDeclaration : Type 0 where
   pub links : List FirstLinkDeclaration
   pub spaces : List MemberDeclaration
 
--- what an entry means
+-- what each entry declares
 abbrev pub value_declaration : GivenValue → ValueDeclaration
 value_declaration (Int z) = int_value z
 value_declaration (Text s) = text_value (string_bytes s)
@@ -86,7 +86,7 @@ units_declaration d = record {
   spaces = map member_declaration d.spaces.items;
 }
 
--- the value that JSON gives: a number that is an i64, a text, a truth value, two numbers in order, or another
+-- the value that JSON gives: an i64, a text, a truth value, two such numbers in order, or any other
 abbrev pub given_value_of : Data → ValueDeclaration
 given_value_of null = other_value
 given_value_of (boolean b) = bool_value b
@@ -95,17 +95,17 @@ given_value_of (string s) = text_value s
 given_value_of (array ds) = option_map_or (λ ends. interval_value ends.0 ends.1) (ends_of (list_of ds)) other_value
 given_value_of (object ms) = other_value
 
--- what the members of an object give, one by one
+-- the values that the members of an object give, in order
 abbrev pub givens_of : Members → List GivenDeclaration
 givens_of no_members = []
 givens_of (member k d ms) = record { slot = k; value = given_value_of d } ∷ givens_of ms
 
--- what a unit gives for slots: an object of any keys and values, an absent one empty
+-- the values of a unit for slots: an object with any keys and values; an absent object is empty
 unfoldable pub given_slots_of : Option Data → Result (List GivenDeclaration) DocumentFault
 given_slots_of None = Ok []
 given_slots_of (Some d) = ok_or (option_map givens_of (as_object d)) misshapen
 
--- a first unit: an object with a name, a class, slots if it gives any, and nothing else
+-- an initial unit: an object with a name, a class, optional slots, and nothing else
 unfoldable pub unit_of : Data → Result UnitDeclaration DocumentFault
 unit_of d = if is_object_with (codes "name" ∷ codes "class" ∷ codes "slots" ∷ []) d then (do
   name ← ok_or (text_at (codes "name") d) misshapen
@@ -113,7 +113,7 @@ unit_of d = if is_object_with (codes "name" ∷ codes "class" ∷ codes "slots" 
   slots ← given_slots_of (get (codes "slots") d)
   Ok (record { name = name; class = class; slots = slots })) else Err misshapen
 
--- the three names of which a link is made, and nothing else
+-- a link from exactly three names
 unfoldable pub first_link_of_names : List Data → Result FirstLinkDeclaration DocumentFault
 first_link_of_names [] = Err misshapen
 first_link_of_names (a ∷ []) = Err misshapen
@@ -131,7 +131,7 @@ first_link_of d = do
   names ← ok_or (as_list d) misshapen
   first_link_of_names names
 
--- the two names of a member and its space, and nothing else
+-- a member from exactly two names, its own and its space's
 unfoldable pub member_of_names : List Data → Result MemberDeclaration DocumentFault
 member_of_names [] = Err misshapen
 member_of_names (a ∷ []) = Err misshapen
@@ -147,7 +147,7 @@ member_of d = do
   names ← ok_or (as_list d) misshapen
   member_of_names names
 
--- the whole document: lists of units, of links and of members, an absent one empty
+-- the whole document: lists of units, of links and of members; an absent list is empty
 unfoldable pub units_declaration_of : Data → Result UnitsDeclaration DocumentFault
 units_declaration_of d = if is_object_with (codes "units" ∷ codes "links" ∷ codes "spaces" ∷ []) d then (do
   given_units ← ok_or (list_at (codes "units") d) misshapen
@@ -158,7 +158,7 @@ units_declaration_of d = if is_object_with (codes "units" ∷ codes "links" ∷ 
   spaces ← try_map_at (inside lists.Spaces) member_of 0 given_spaces
   Ok (record { units = units; links = links; spaces = spaces })) else Err misshapen
 
--- what a text declares: the JSON, then its form
+-- what a text declares: first the JSON is read, then its form
 unfoldable pub units_document_of : List ℕ → Result UnitsDeclaration DocumentFault
 units_document_of text = do
   json ← ok_or (read text) Json

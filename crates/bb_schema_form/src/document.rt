@@ -1,7 +1,7 @@
-//! What the documents declare: the entries of a schema, and of first units. `bb_schema` and `bb_board` read them.
+//! What the documents declare: the entries of a schema and of the initial units. `bb_schema` and `bb_board` read them.
 
-/// What a schema's document declares, in its order. Only the form has been tested: a name may be any text, and may be
-/// declared twice or not at all.
+/// What a schema's document declares, in document order. Only the form has been tested: a name may be any text, and may
+/// be declared twice or not at all.
 #[derive(Drop)]
 pub struct Document {
     pub label_sets: Vec<LabelSetEntry>,
@@ -16,7 +16,7 @@ pub struct LabelSetEntry {
     pub values: Vec<String>,
 }
 
-// By hand, so that a proof meets one call where it is dropped, and not each of its parts.
+// By hand, so that proofs see a drop as one call, not one per part.
 impl Drop for LabelSetEntry {
     fn drop(self) {
         let LabelSetEntry { name: _, values: _ } = self;
@@ -31,7 +31,7 @@ pub struct ClassEntry {
     pub links: Vec<LinkEntry>,
 }
 
-// By hand, so that a proof meets one call where it is dropped, and not each of its parts.
+// By hand, so that proofs see a drop as one call, not one per part.
 impl Drop for ClassEntry {
     fn drop(self) {
         let ClassEntry {
@@ -49,7 +49,7 @@ pub struct SlotEntry {
     pub default: DefaultEntry,
 }
 
-// By hand, so that a proof meets one call where it is dropped, and not each of its parts.
+// By hand, so that proofs see a drop as one call, not one per part.
 impl Drop for SlotEntry {
     fn drop(self) {
         let SlotEntry {
@@ -59,19 +59,19 @@ impl Drop for SlotEntry {
     }
 }
 
-/// The default of a slot, which implies its kind. A document that gives none means 0, the empty text, `false` and
+/// The default of a slot, which implies the slot's kind. If a document gives none, it is 0, the empty text, `false` or
 /// the interval from 0 to 0.
 pub enum DefaultEntry {
     Int(i64),
     Text(String),
     Bool(bool),
-    /// A label of a set, or the set's first where the document gives none.
+    /// A label of the set `of`, or the set's first label if the document gives none.
     Label { of: String, default: Option<String> },
-    /// An interval from the first number to the second, which is no less.
+    /// An interval from the first number to the second, which is not less.
     Interval(i64, i64),
 }
 
-// By hand, so that a proof meets one call where it is dropped, and not each of its variants.
+// By hand, so that proofs see a drop as one call, not one case per variant.
 impl Drop for DefaultEntry {
     fn drop(self) {
         match self {
@@ -84,18 +84,18 @@ impl Drop for DefaultEntry {
     }
 }
 
-/// A link slot of a class: the class that it leads to, whether it holds many units, the slot that leads back, and
-/// whether a unit owns those that the slot holds, so that they are deleted with it.
+/// A link slot of a class: its target class, whether it holds many units, its inverse slot, and whether a unit owns the
+/// units in the slot, so that they are deleted with it.
 pub struct LinkEntry {
     pub name: String,
     pub to: String,
     pub many: bool,
     pub inverse: String,
-    /// `false` where the document doesn't say it.
+    /// `false` if the document leaves it out.
     pub owns: bool,
 }
 
-// By hand, so that a proof meets one call where it is dropped, and not each of its parts.
+// By hand, so that proofs see a drop as one call, not one per part.
 impl Drop for LinkEntry {
     fn drop(self) {
         let LinkEntry {
@@ -115,7 +115,7 @@ pub struct SpaceEntry {
     pub dims: Vec<DimEntry>,
 }
 
-// By hand, so that a proof meets one call where it is dropped, and not each of its parts.
+// By hand, so that proofs see a drop as one call, not one per part.
 impl Drop for SpaceEntry {
     fn drop(self) {
         let SpaceEntry {
@@ -126,20 +126,21 @@ impl Drop for SpaceEntry {
     }
 }
 
-/// A dimension of a space: an enumerated one is of a label set, an ordered one of none.
+/// A dimension of a space: `of` is the label set of an enumerated dimension, `None` for an ordered one.
 pub struct DimEntry {
     pub name: String,
     pub of: Option<String>,
 }
 
-// By hand, so that a proof meets one call where it is dropped, and not each of its parts.
+// By hand, so that proofs see a drop as one call, not one per part.
 impl Drop for DimEntry {
     fn drop(self) {
         let DimEntry { name: _, of: _ } = self;
     }
 }
 
-/// What the document of the first units declares, in its order. Only the form has been tested: a name may be any text.
+/// What the document of the initial units declares, in document order. Only the form has been tested: a name may be any
+/// text.
 #[derive(Drop)]
 pub struct UnitsDocument {
     pub units: Vec<UnitEntry>,
@@ -147,15 +148,15 @@ pub struct UnitsDocument {
     pub spaces: Vec<MemberEntry>,
 }
 
-/// A first unit, with the name by which its document refers to it.
+/// An initial unit, with the name by which its document refers to it.
 pub struct UnitEntry {
     pub name: String,
     pub class: String,
-    /// The given values, in the order of the slots' names, byte by byte; each name stands once.
+    /// The given values, sorted by the bytes of the slot names. No name occurs twice.
     pub slots: Vec<GivenEntry>,
 }
 
-// By hand, so that a proof meets one call where it is dropped, and not each of its parts.
+// By hand, so that proofs see a drop as one call, not one per part.
 impl Drop for UnitEntry {
     fn drop(self) {
         let UnitEntry {
@@ -166,32 +167,32 @@ impl Drop for UnitEntry {
     }
 }
 
-/// A value that a first unit gives for a slot. The name may be any text.
+/// A value that an initial unit gives for a slot. The slot's name may be any text.
 pub struct GivenEntry {
     pub slot: String,
     pub value: GivenValue,
 }
 
-// By hand, so that a proof meets one call where it is dropped, and not each of its parts.
+// By hand, so that proofs see a drop as one call, not one per part.
 impl Drop for GivenEntry {
     fn drop(self) {
         let GivenEntry { slot: _, value: _ } = self;
     }
 }
 
-/// A value that a first unit gives, as its JSON has it. The schema says which slots it fits.
+/// A value that an initial unit gives, as in the JSON. Which slots it fits depends on the schema.
 pub enum GivenValue {
     Int(i64),
-    /// A text, which for a slot of labels is a label's name.
+    /// A text. For a label slot, it is the name of a label.
     Text(String),
     Bool(bool),
-    /// An interval from the first number to the second, which is no less.
+    /// An interval from the first number to the second, which is not less.
     Interval(i64, i64),
     /// Any other JSON. It fits no slot.
     Other,
 }
 
-// By hand, so that a proof meets one call where it is dropped, and not each of its variants.
+// By hand, so that proofs see a drop as one call, not one case per variant.
 impl Drop for GivenValue {
     fn drop(self) {
         match self {
@@ -204,15 +205,15 @@ impl Drop for GivenValue {
     }
 }
 
-/// A link between first units: a unit, a link slot of its class, and the unit that it leads to. Both units go by the
-/// names that the document gives them.
+/// A link between initial units: a unit, a link slot of its class, and the unit that it leads to. Units are named as in
+/// the document.
 pub struct FirstLinkEntry {
     pub from: String,
     pub slot: String,
     pub to: String,
 }
 
-// By hand, so that a proof meets one call where it is dropped, and not each of its parts.
+// By hand, so that proofs see a drop as one call, not one per part.
 impl Drop for FirstLinkEntry {
     fn drop(self) {
         let FirstLinkEntry {
@@ -223,13 +224,13 @@ impl Drop for FirstLinkEntry {
     }
 }
 
-/// A first unit that a space has as a member. The unit goes by the name that the document gives it.
+/// An initial unit that is a member of a space. The unit is named as in the document.
 pub struct MemberEntry {
     pub unit: String,
     pub space: String,
 }
 
-// By hand, so that a proof meets one call where it is dropped, and not each of its parts.
+// By hand, so that proofs see a drop as one call, not one per part.
 impl Drop for MemberEntry {
     fn drop(self) {
         let MemberEntry { unit: _, space: _ } = self;

@@ -1,4 +1,4 @@
-//! The entries of the lists of a document: one trait for each kind of entry, the one loop that reads a list, and the
+//! The entries of the lists of a document: the trait of all kinds of entries, the one loop that reads a list, and the
 //! texts that entries keep.
 
 ghost use Rattle.std.specs.Prelude.{◌≡◌, List, Result, map};
@@ -32,7 +32,7 @@ pub(crate) trait Entry: Sized {
         ensures { Gives OutOfMemory declared result (form (view value.now)) };
 }
 
-/// The entries that the values of a list declare, in their order, or the first fault, at its entry of the list.
+/// Returns the entries that the values of a list declare, in their order, or the first fault, with its entry as place.
 pub(crate) fn entries<E: Entry>(
     alloc: Global,
     list: ListKey,
@@ -51,7 +51,7 @@ where
     Ok(entries)
 }
 
-/// The text under a key of an object, as an entry keeps it.
+/// Returns the text under a key of an object, as a `String` that an entry keeps.
 pub(crate) fn string_at(alloc: Global, value: &Value, key: &str) -> Result<String, DocumentFault>
     ensures { Gives OutOfMemory string_bytes result (ok_or (text_at key.now (view value.now)) misshapen) }
 {

@@ -1,4 +1,4 @@
-//! Why a text is no document. The readers of both documents return it.
+//! Why a text is not a document. The readers of both documents return it.
 
 ghost use Rattle.std.specs.Prelude.{◌≡◌};
 ghost use Rattle.bb_schema_form.specs.declared.fault.DocumentFault.TheVariants.{Memory as OutOfMemory};
@@ -9,14 +9,14 @@ use crate::place::{DocumentPlace, ListKey};
 use std::alloc::{AllocError, AllocFailed};
 use thiserror::Error;
 
-/// Why a text is no document of a schema, or of first units.
+/// Why a text is not a document of a schema or of initial units.
 #[derive(Clone, Copy, Debug, PartialEq, Eq, Error)]
 pub enum DocumentFault {
     /// The text is not JSON.
     #[error("the document is not JSON")]
     Json,
-    /// The JSON does not have the form of the document: another key, a missing one, or a value of another form. The
-    /// place is that of the first entry, in the order of reading, whose form is wrong.
+    /// The JSON does not have the form of the document: an unknown key, a missing one, or a value of another form. The
+    /// place is the first entry, in reading order, with a wrong form.
     #[error("the document does not have the form that it should have")]
     Shape { place: DocumentPlace },
     /// Memory ran out.
@@ -25,7 +25,7 @@ pub enum DocumentFault {
 }
 
 impl DocumentFault {
-    /// The fault of a value whose own form is wrong, and not that of an entry of one of its lists.
+    /// Makes the fault of a value with a wrong form of its own, not of an entry of one of its lists.
     pub(crate) fn misshapen() -> DocumentFault
         ensures { result ≡ misshapen }
     {
@@ -34,7 +34,7 @@ impl DocumentFault {
         }
     }
 
-    /// The fault of an entry, its place seen from the value that lists the entry.
+    /// Returns the fault of an entry, with its place seen from the value that lists the entry.
     pub(crate) fn inside(self, list: ListKey, index: usize) -> DocumentFault
         ensures { result ≡ inside list index self }
     {
@@ -48,7 +48,7 @@ impl DocumentFault {
     }
 }
 
-/// The answer of an entry of a list, a fault at its place in that list.
+/// Returns the result of reading an entry of a list, with a fault at the entry's place in that list.
 pub(crate) fn placed<T>(
     answer: Result<T, DocumentFault>,
     list: ListKey,

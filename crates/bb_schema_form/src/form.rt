@@ -1,4 +1,4 @@
-//! The form of a schema's document: `Document::read`, and what each kind of its entries declares.
+//! The form of a schema's document: `Document::read`, and what each kind of entry declares.
 
 ghost use Rattle.std.specs.Prelude.{◌≡◌, map, pos, false, [], Some, IfOk, option_map};
 ghost use Rattle.std.specs.Option.{option_map_or};
@@ -28,10 +28,10 @@ use serde_json::Value;
 use std::alloc::{AllocError, Global};
 
 impl Document {
-    /// What a schema's document declares. `Json` where the text is not JSON, then `Shape` where the JSON does not have
-    /// the form of a schema: a key that no such object has, a missing key, or a value of another form, `null`
-    /// included. Its place is that of the first entry with such a fault: label sets, classes with their slots and then
-    /// links, spaces with their classes and then dimensions. `Memory` may come at any point.
+    /// Returns what a schema's document declares. `Json` if the text is not JSON, then `Shape` if the JSON does not
+    /// have the form of a schema: a key that no such object has, a missing key, or a value of another form, `null`
+    /// included. The place is the first entry with such a fault; the order is label sets, classes with their slots and
+    /// then links, spaces with their classes and then dimensions. `Memory` may occur at any point.
     #[tactic(auto, unfolding(crate::specs::Form::document_of))]
     pub fn read(alloc: Global, text: &str) -> Result<Document, DocumentFault>
         ensures gives { Gives OutOfMemory declarations result (document_of text.now) }
@@ -243,7 +243,7 @@ impl Entry for DimEntry {
     }
 }
 
-// Whether a kind of dimension goes with a label set, or with none.
+// Whether the kind of a dimension fits its label set, or the lack of one.
 fn is_dim_kind(kind: &str, set: Option<&str>) -> bool
     ensures { result ≡ is_dim_kind kind.now (option_map (λ t. t.now) set.entry) }
 {
@@ -262,7 +262,7 @@ fn optional_string(alloc: Global, text: Option<&str>) -> Result<Option<String>, 
     }
 }
 
-// The default of a slot: it is of a label set where its kind is `label`, and of none where it is another.
+// The default of a slot. A slot of kind `label` needs a label set, and no other kind may have one.
 #[tactic(auto, unfolding(crate::specs::Form::default_of))]
 fn default(
     alloc: Global,
@@ -299,7 +299,7 @@ fn label_default(
     })
 }
 
-// The default of a slot of a kind without labels, as given, or the kind's own.
+// The default of a slot whose kind is not `label`: the given one, or the kind's own if none is given.
 #[tactic(auto, unfolding(crate::specs::Form::plain_default_of))]
 fn plain_default(
     alloc: Global,
@@ -370,7 +370,7 @@ fn interval_or_zero(given: Option<&Value>) -> Option<(i64, i64)>
     }
 }
 
-/// Two numbers, the first no greater than the second.
+/// Returns two numbers, the first not greater than the second, if these are such values.
 pub(crate) fn interval(ends: &[Value]) -> Option<(i64, i64)>
     ensures { result ≡ ends_of (map view ends.now) }
 {

@@ -1,5 +1,5 @@
-//! The form of the two JSON documents, a schema's and that of the first units: whether a text is such a document, and
-//! what its entries declare, before any name in them is looked up. JSON ends here.
+//! The form of the two JSON documents, the schema's and the initial units': whether a text is such a document, and what
+//! its entries declare, before any name in them is looked up. The crates above see entries, not JSON.
 #![tactic(auto)]
 
 mod document;

@@ -1,5 +1,6 @@
-//! From a tree over borrowed text to a value of `serde_json`, which owns its text: the value that `serde_json` makes of
-//! the same JSON. `None` where memory ran out, or where a number is no integer of 64 bits, which it takes for a float.
+//! Converts a tree over borrowed text to a value of `serde_json`, which owns its text: the value that `serde_json`
+//! makes of the same JSON. Returns `None` if memory ran out, or if `serde_json` takes a number for a float: a number
+//! that is not an integer of 64 bits, or is `-0`.
 
 ghost use Rattle.std.specs.Prelude.{◌≡◌, ◌==◌, ◌<◌, Some, IfSome, IsTrue, false, length, map, slice_index, true};
 ghost use Rattle.fast_float.specs.Text.{scan};
@@ -39,7 +40,7 @@ fn owned_items(alloc: Global, values: &Vec<json::Value<'_>>) -> Option<Vec<Value
     Some(made)
 }
 
-// The members go in one after another, so of a key that comes twice the last value stays, as `serde_json` has it.
+// Members are inserted in order, so the last value of a repeated key stays, as in `serde_json`.
 #[cycle(owned)]
 fn owned_members(
     alloc: Global,
@@ -57,7 +58,7 @@ fn owned_members(
     Some(made)
 }
 
-// The number of a text that is an integer of 64 bits. `-0` is none: `serde_json` takes it for a float.
+// The number of a text that is an integer of 64 bits. `None` for `-0`: `serde_json` takes it for a float.
 fn integer(text: &str) -> Option<Number>
     ensures { IfSome result (λ n. number_of text.now ≡ Some (number_view n)) }
 {
@@ -76,7 +77,7 @@ fn has_minus(bytes: &[u8]) -> bool
     !bytes.is_empty() && bytes[0] == b'-'
 }
 
-// The number of 0 or more that has these digits.
+// The number, 0 or more, with these digits.
 fn positive(digits: &[u8]) -> Option<Number>
     ensures { IfSome result (λ n. number_from false (scan digits.now) ≡ Some (number_view n)) }
 {
@@ -84,7 +85,7 @@ fn positive(digits: &[u8]) -> Option<Number>
     Some(Number::from(number))
 }
 
-// The number below 0 that has these digits.
+// The number below 0 with these digits.
 fn negative(digits: &[u8]) -> Option<Number>
     ensures { IfSome result (λ n. number_from true (scan digits.now) ≡ Some (number_view n)) }
 {

@@ -1,4 +1,4 @@
-//! JSON itself. Both documents are parsed by it.
+//! The parser of JSON. Both documents are parsed by it.
 
 ghost use Rattle.std.specs.Prelude.{◌≡◌};
 ghost use Rattle.bb_schema_form.specs.declared.fault.DocumentFault.TheVariants.{Memory as OutOfMemory, Json};
@@ -10,7 +10,7 @@ use crate::fault::DocumentFault;
 use serde_json::Value;
 use std::alloc::Global;
 
-/// The JSON value of a text.
+/// Returns the JSON value of a text. `Json` if the text is not JSON.
 pub(crate) fn json(alloc: Global, text: &str) -> Result<Value, DocumentFault>
     ensures { Gives OutOfMemory view result (ok_or (read text.now) Json) }
 {

@@ -1,4 +1,4 @@
-//! Where in a document a fault stands: at an entry of one of its lists. Faults of both documents have such places.
+//! Where in a document a fault is: at an entry of one of its lists. Faults of both documents have such places.
 
 ghost use Rattle.std.specs.Prelude.{◌≡◌};
 ghost use Rattle.bb_schema_form.specs.Places.{inside_place, list_key};
@@ -6,29 +6,29 @@ ghost use Rattle.bb_schema_form.specs.Places.{inside_place, list_key};
 use std::fmt;
 use std::fmt::{Display, Formatter, Write};
 
-/// A list of a document, by its key.
+/// A list of a document, named by its key.
 #[derive(Clone, Copy, Debug, PartialEq, Eq)]
 pub enum ListKey {
     /// The label sets of a schema.
     Labels,
     /// The labels of a set.
     Values,
-    /// The classes of a schema, or those that a space admits.
+    /// The classes of a schema, or the classes that a space admits.
     Classes,
     /// The ordinary slots of a class.
     Slots,
-    /// The link slots of a class, or the links between first units.
+    /// The link slots of a class, or the links between initial units.
     Links,
-    /// The spaces of a schema, or the first units in spaces.
+    /// The spaces of a schema, or the memberships of initial units in spaces.
     Spaces,
     /// The dimensions of a space.
     Dims,
-    /// The first units.
+    /// The initial units.
     Units,
 }
 
 impl ListKey {
-    /// The key, as documents have it.
+    /// Returns the key, as in documents.
     pub fn key(self) -> &'static str
         ensures { result.now ≡ list_key self }
     {
@@ -45,17 +45,17 @@ impl ListKey {
     }
 }
 
-/// An entry of a list: its index counts from 0.
+/// An entry of a list. The index counts from 0.
 #[derive(Clone, Copy, Debug, PartialEq, Eq)]
 pub struct ListItem {
     pub list: ListKey,
     pub index: usize,
 }
 
-/// Where in a document a fault stands.
+/// Where in a document a fault is.
 #[derive(Clone, Copy, Debug, PartialEq, Eq)]
 pub enum DocumentPlace {
-    /// No entry of a list: the document itself. While an entry is read, the entry itself.
+    /// The document itself, not an entry of a list. While an entry is read, the entry itself.
     Whole,
     /// An entry, as `classes[3]`.
     Entry(ListItem),
@@ -64,7 +64,7 @@ pub enum DocumentPlace {
 }
 
 impl DocumentPlace {
-    /// The place of an entry, seen from the value that lists the entry. Entries lie two deep at most.
+    /// Returns the place of an entry, seen from the value that lists the entry. Entries are nested at most two deep.
     pub fn inside(self, list: ListKey, index: usize) -> DocumentPlace
         ensures { result ≡ inside_place list index self }
     {
@@ -83,7 +83,7 @@ impl Display for ListItem {
     }
 }
 
-/// The entry as a program would write it: `classes[3].links[0]`. For the document itself, nothing.
+/// Writes the entry as a program would: `classes[3].links[0]`. Writes nothing for the document itself.
 impl Display for DocumentPlace {
     fn fmt<W: Write>(&self, f: &mut Formatter<W>) -> fmt::Result {
         match self {

@@ -1,5 +1,5 @@
-//! The quick way to a document of first units: entries are read from a tree over the borrowed text (quick_entry.rt). It
-//! returns `None` wherever anything is unusual, and then says nothing of the text. `UnitsDocument::read` tries it.
+//! The fast reader of initial units: it reads entries from a tree over the borrowed text (quick_entry.rt). It returns
+//! `None` if anything is unusual, which implies nothing about the text. `UnitsDocument::read` tries it first.
 
 ghost use Rattle.std.specs.Prelude.{◌≡◌, [], Ok, IfSome, map};
 ghost use Rattle.std.specs.List.{list_any, list_all};
@@ -16,10 +16,10 @@ use json::{Reader, Scratch, Value};
 use std::alloc::Global;
 use std::mem;
 
-// How deep the arrays and objects of a text nest at most: as deep as `serde_json` takes them.
+// The maximum nesting of arrays and objects in a text, as in `serde_json`.
 const MAX_DEPTH: usize = 127;
 
-/// The document of first units that a text is, read the quick way.
+/// Returns what a text declares as a document of initial units, or `None` if anything is unusual.
 pub(crate) fn quick(alloc: Global, text: &str) -> Option<UnitsDocument>
     ensures { IfSome result (λ document. units_document_of text.now ≡ Ok (units_declaration document)) }
 {
@@ -64,7 +64,7 @@ fn have_list_keys(members: &[(&str, Value<'_>)]) -> bool
     members.iter().all(|member| is_list_key(member.0))
 }
 
-// The entries of a list of the document; an absent one is empty. Of a key that comes twice the last list counts.
+// The entries of a list of the document; an absent list is empty. Of a repeated key, the last list counts.
 fn entries_at<E: QuickEntry>(
     alloc: Global,
     list: ListKey,
@@ -86,7 +86,7 @@ where
     Some(found)
 }
 
-// The entries of a value that is an array of such.
+// The entries of a value that is an array of entries.
 fn entries<E: QuickEntry>(alloc: Global, list: ListKey, value: &Value<'_>) -> Option<Vec<E>>
 where
     E: Drop,

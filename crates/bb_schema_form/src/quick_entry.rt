@@ -1,5 +1,5 @@
-//! The entries of a document of first units, as they are read from a tree over borrowed text: those of the usual form
-//! at once, and any other unit by way of the value that `serde_json` makes of it.
+//! The entries of a document of initial units, read from a tree over borrowed text. Entries of the usual form are read
+//! directly, any other unit through the value that `serde_json` makes of it.
 
 ghost use Rattle.std.specs.Prelude.{◌≡◌, Ok, Some, IfSome, map};
 ghost use Rattle.std.specs.String.{string_bytes};
@@ -18,9 +18,9 @@ use crate::units_form::given_slots;
 use json::Value;
 use std::alloc::Global;
 
-/// An entry that may be read from a tree over borrowed text.
+/// An entry that can be read from a tree over borrowed text.
 pub(crate) trait QuickEntry: Entry {
-    /// The entry that a value declares. `None` says nothing of the value.
+    /// Returns the entry that a value declares. `None` implies nothing about the value.
     fn quick_of(alloc: Global, value: &Value<'_>) -> Option<Self>
         ensures { IfSome result (λ e. entry_of Self.form value.now ≡ Ok (Self.declared e)) };
 }
@@ -38,7 +38,7 @@ impl QuickEntry for UnitEntry {
     }
 }
 
-// The unit of a name, a class and slots, in this order; the slots may be absent.
+// A unit with a name, a class and slots, in this order; the slots may be absent.
 fn usual_unit(alloc: Global, members: &[(&str, Value<'_>)]) -> Option<UnitEntry>
     ensures { IfSome result (λ e. declared_by unit_of (object (members_view members.now)) ≡ Ok (unit_declaration e)) }
 {
@@ -59,7 +59,7 @@ fn usual_unit(alloc: Global, members: &[(&str, Value<'_>)]) -> Option<UnitEntry>
     }
 }
 
-// The text of a member with this key.
+// The text of a member, if it has this key.
 fn text_under(alloc: Global, member: &(&str, Value<'_>), key: &str) -> Option<String>
     ensures { IfSome result (λ s. (member.now.0.now ≡ key.now)
         × (value_view member.now.1 ≡ string (string_bytes s))) }
@@ -70,7 +70,7 @@ fn text_under(alloc: Global, member: &(&str, Value<'_>), key: &str) -> Option<St
     text(alloc, &member.1)
 }
 
-// The slots that a member with this key gives.
+// The slots that a member gives, if it has this key.
 fn slots_under(alloc: Global, member: &(&str, Value<'_>), key: &str) -> Option<Vec<GivenEntry>>
     ensures { IfSome result (λ es. (member.now.0.now ≡ key.now)
         × ((d : Data) × (of_json (value_view member.now.1) ≡ Some d)

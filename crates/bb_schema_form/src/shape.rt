@@ -1,4 +1,4 @@
-//! The form of a JSON document, piece by piece. The forms of both documents are made of these tests.
+//! The form of a JSON document, piece by piece. The readers of both documents are built from these tests.
 
 ghost use Rattle.std.specs.Prelude.{◌≡◌, map, option_map};
 ghost use Rattle.std.specs.List.{list_any, list_all};
@@ -23,7 +23,7 @@ fn are_among(members: &Map<String, Value>, keys: &[&str]) -> bool
     members.keys().all(|key| is_among(key.as_str(), keys))
 }
 
-/// Whether a value is an object each of whose keys is one of these.
+/// Returns whether a value is an object with no keys except these.
 pub(crate) fn is_object_with(value: &Value, keys: &[&str]) -> bool
     ensures { result ≡ is_object_with (map (λ k. k.now) keys.now) (view value.now) }
 {
@@ -33,29 +33,29 @@ pub(crate) fn is_object_with(value: &Value, keys: &[&str]) -> bool
     }
 }
 
-/// The entries of an array.
+/// Returns the entries of an array, `None` if the value is not an array.
 pub(crate) fn as_list(value: &Value) -> Option<&[Value]>
     ensures { option_map (λ vs. map view vs.now) result ≡ as_list (view value.now) }
 {
     Some(value.as_array()?.as_slice())
 }
 
-/// The text under a key of an object, if there is one.
+/// Returns the text under a key of an object, if there is one.
 pub(crate) fn text_at<'a>(value: &'a Value, key: &str) -> Option<&'a str>
     ensures { option_map (λ t. t.now) result ≡ text_at key.now (view value.now) }
 {
     value.get(key)?.as_str()
 }
 
-/// The truth value under a key of an object, if there is one.
+/// Returns the truth value under a key of an object, if there is one.
 pub(crate) fn bool_at(value: &Value, key: &str) -> Option<bool>
     ensures { result ≡ bool_at key.now (view value.now) }
 {
     value.get(key)?.as_bool()
 }
 
-/// The truth value under a key of an object, `false` where the key is absent. A value that is no truth value gives
-/// `None`.
+/// Returns the truth value under a key of an object, `false` if the key is absent, `None` if the value is not a truth
+/// value.
 pub(crate) fn optional_bool_at(value: &Value, key: &str) -> Option<bool>
     ensures { result ≡ optional_bool_at key.now (view value.now) }
 {
@@ -65,14 +65,14 @@ pub(crate) fn optional_bool_at(value: &Value, key: &str) -> Option<bool>
     }
 }
 
-/// The list under a key of an object, if there is one.
+/// Returns the list under a key of an object, if there is one.
 pub(crate) fn required_list_at<'a>(value: &'a Value, key: &str) -> Option<&'a [Value]>
     ensures { option_map (λ vs. map view vs.now) result ≡ required_list_at key.now (view value.now) }
 {
     as_list(value.get(key)?)
 }
 
-/// The list under a key of an object. An absent one is empty; a value that is no list gives `None`.
+/// Returns the list under a key of an object, empty if the key is absent, `None` if the value is not a list.
 pub(crate) fn list_at<'a>(value: &'a Value, key: &str) -> Option<&'a [Value]>
     ensures { option_map (λ vs. map view vs.now) result ≡ list_at key.now (view value.now) }
 {
@@ -82,7 +82,7 @@ pub(crate) fn list_at<'a>(value: &'a Value, key: &str) -> Option<&'a [Value]>
     }
 }
 
-/// The text under a key of an object, `Some(None)` where the key is absent. A value that is no text gives `None`.
+/// Returns the text under a key of an object, `Some(None)` if the key is absent, `None` if the value is not a text.
 pub(crate) fn optional_text_at<'a>(value: &'a Value, key: &str) -> Option<Option<&'a str>>
     ensures { option_map (λ o. option_map (λ t. t.now) o) result ≡ optional_text_at key.now (view value.now) }
 {

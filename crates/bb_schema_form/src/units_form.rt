@@ -1,4 +1,4 @@
-//! The form of the document of first units: `UnitsDocument::read`, and what each of its entries declares.
+//! The form of the document of initial units: `UnitsDocument::read`, and what each kind of entry declares.
 
 ghost use Rattle.std.specs.Prelude.{◌≡◌, map, IfOk, option_map};
 ghost use Rattle.bb_schema_form.specs.declared.fault.DocumentFault.TheVariants.{Memory as OutOfMemory};
@@ -24,10 +24,10 @@ use serde_json::{Map, Value};
 use std::alloc::{AllocError, Global};
 
 impl UnitsDocument {
-    /// What the document of first units declares. `Json` where the text is not JSON, then `Shape` where the JSON does
-    /// not have the form of first units: a key that no such object has, a missing key, or a value of another form,
-    /// `null` included. Its place is that of the first entry with such a fault: units, links, spaces. `Memory` may come
-    /// at any point.
+    /// Returns what the document of initial units declares. `Json` if the text is not JSON, then `Shape` if the JSON
+    /// does not have the form of initial units: a key that no such object has, a missing key, or a value of another
+    /// form. A slot may have any value; elsewhere `null` is a fault too. The place is the first entry with such a
+    /// fault; the order is units, links, spaces. `Memory` may occur at any point.
     #[tactic(auto, unfolding(crate::specs::UnitsDocument::units_document_of))]
     pub fn read(alloc: Global, text: &str) -> Result<UnitsDocument, DocumentFault>
         ensures { Gives OutOfMemory units_declaration result (units_document_of text.now) }
@@ -81,7 +81,7 @@ impl Entry for UnitEntry {
     }
 }
 
-/// The values that a unit gives for slots: none where the key is absent.
+/// Returns the values that a unit gives for slots, none if the key is absent.
 #[tactic(auto, unfolding(crate::specs::UnitsDocument::given_slots_of))]
 pub(crate) fn given_slots(
     alloc: Global,
@@ -99,7 +99,7 @@ pub(crate) fn given_slots(
     }
 }
 
-// What the members of an object give, in their order.
+// The values that the members of an object give, in their order.
 fn givens(alloc: Global, members: &Map<String, Value>) -> Result<Vec<GivenEntry>, AllocError>
     ensures { IfOk result (λ es. map given_declaration es.items ≡ givens_of (members_view members.now.entries)) }
 {
@@ -112,7 +112,7 @@ fn givens(alloc: Global, members: &Map<String, Value>) -> Result<Vec<GivenEntry>
     Ok(entries)
 }
 
-// The value that JSON gives for a slot.
+// The value that a JSON value gives for a slot.
 fn given_value(alloc: Global, value: &Value) -> Result<GivenValue, AllocError>
     ensures { IfOk result (λ given. value_declaration given ≡ given_value_of (view value.now)) }
 {
@@ -143,7 +143,7 @@ impl Entry for FirstLinkEntry {
     }
 }
 
-// A link of the three names of which it is made.
+// The link with these three names: unit, slot, unit.
 #[tactic(auto, unfolding(crate::specs::UnitsDocument::first_link_of_names))]
 fn first_link(alloc: Global, names: &[Value]) -> Result<FirstLinkEntry, DocumentFault>
     ensures { Gives OutOfMemory first_link_declaration result (first_link_of_names (map view names.now)) }
@@ -175,7 +175,7 @@ impl Entry for MemberEntry {
     }
 }
 
-// A member by its name and that of its space.
+// The member with these two names: unit, space.
 #[tactic(auto, unfolding(crate::specs::UnitsDocument::member_of_names))]
 fn member(alloc: Global, names: &[Value]) -> Result<MemberEntry, DocumentFault>
     ensures { Gives OutOfMemory member_declaration result (member_of_names (map view names.now)) }

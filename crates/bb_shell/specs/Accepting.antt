@@ -43,7 +43,7 @@ accepted_act s part (acts.Do code) = do
   Ok (acts.Do checked')
 accepted_act s part acts.Native = Ok acts.Native
 
--- the parts besides the act, accepted in the order in which a bundle has them
+-- the parts besides the act, accepted in the order of a bundle
 unfoldable pub accepted_parts : Schema → Classes → Parts Code → Result (Parts Checked) CodeFault
 accepted_parts s c codes = do
   require ← accepted_part s (Require c.own) codes.require
@@ -59,7 +59,7 @@ accepted_draft s c draft = do
   act ← accepted_act s (Do c.own) draft.act
   Ok (record { header = draft.header; parts = parts; act = act })
 
--- the fault of a code as one of the source of this name
+-- the fault of a code as a fault of the source with this name
 abbrev pub in_source : List ℕ → CodeFault → InputFault
 in_source name (faults.Verify part fault) = inputs.Verify name part fault
 in_source name faults.Memory = inputs.Memory

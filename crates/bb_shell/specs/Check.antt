@@ -16,6 +16,6 @@ sources_in natives schema sources bundle = do
   s ← map_err inputs.Schema (schema_of schema)
   given natives s sources bundle
 
--- there are sources, and the lines on them were written this far
+-- there are sources, and the lines about them were written this far
 abbrev pub WritesCheck : Result (List Source) InputFault → Done → (taken given : Option (List ℕ)) → Type 0
 WritesCheck sources done taken given = IsOkAnd sources (λ xs. Wrote (check_text xs) done taken given)

@@ -1,4 +1,4 @@
--- The lines of a check: what the parts of each source cost, and how many sources there are.
+-- The lines of a check: the costs of each source's parts, and the number of sources.
 use Rattle.std.specs.Prelude.{ℕ, List, [], ◌∷◌, ◌++◌, Option, Some, None, option_map, length, codes}
 use Rattle.std.specs.Fmt.{decimal}
 use Rattle.std.specs.List.{flat_map}
@@ -8,7 +8,8 @@ use Rattle.bb_run.specs.Act.{Act}
 use Rattle.bb_run.specs.Act.TheVariants as acts
 use Rattle.bb_run.specs.Source.{Source}
 
--- `NAME PART ops N budget B0 B1`: the ops of a code, and its budget where it finds nothing, and one unit at most
+-- `NAME PART ops N budget B0 B1`: the number of ops of a code, its budget if it finds nothing, and its budget if it
+-- finds at most one unit
 abbrev pub part_line : (name part : List ℕ) → Checked → List ℕ
 part_line name part checked =
     name ++ codes " " ++ part ++ codes " ops " ++ decimal (length checked.code.ops)
@@ -24,7 +25,7 @@ abbrev pub act_text : (name : List ℕ) → Act → List ℕ
 act_text name (acts.Code checked) = part_line name (codes "do") checked
 act_text name acts.Native = name ++ codes " native" ++ 10 ∷ []
 
--- the lines of a source, its parts in the order of a bundle
+-- the lines of a source, with its parts in the order of a bundle
 abbrev pub source_text : Source → List ℕ
 source_text source =
     part_text source.name (codes "require") source.require

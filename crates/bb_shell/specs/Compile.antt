@@ -1,4 +1,4 @@
--- The compiling of an input, which reads neither units nor a bundle, and runs nothing.
+-- The compilation of an input, which reads neither units nor a bundle, and runs nothing.
 use Rattle.std.specs.Prelude.{◌≡◌, ℕ, List, Option, Result, Ok, IsOkAnd}
 use Rattle.bb_basis.specs.Results.{◌>>=◌, map_err}
 use Rattle.bb_schema.specs.Reading.{schema_of}

@@ -1,4 +1,4 @@
--- The sources that run together: each has to fit those before it.
+-- The sources that run together: each must fit the earlier ones.
 use Rattle.std.specs.Prelude.{◌≡◌, ℕ, Bool, true, false, not, ◌&&◌, nat_le, is_some, List, [], ◌∷◌, ◌++◌, length, map, position, Result, Ok, Err, if◌then◌else◌}
 use Rattle.std.specs.List.{list_any}
 use Rattle.std.specs.Str.{bytes_eq}
@@ -17,12 +17,12 @@ use Rattle.bb_shell.specs.declared.fitting.Unfit.TheVariants as unfits
 abbrev pub names_of : List Source → List (List ℕ)
 names_of sources = map (λ source. source.name) sources
 
--- an act that is a native's
+-- the act is a native's
 abbrev pub is_native : Act → Bool
 is_native (acts.Code body) = false
 is_native acts.Native = true
 
--- the names of the natives that were handed in
+-- the names of the natives handed in
 abbrev pub native_names : List Native → List (List ℕ)
 native_names natives = map (λ (n : Native). n.name) natives
 
@@ -38,11 +38,12 @@ has_native natives name = is_some (position (λ one. bytes_eq one name) natives)
 abbrev pub lacks_native : (natives : List (List ℕ)) → Source → Bool
 lacks_native natives source = is_native source.act && not (has_native natives source.name)
 
--- a source has a code for its act, or a native of its name is there
+-- a source has a code for its act, or a native of its name is present
 abbrev pub HasAct : (natives : List (List ℕ)) → Source → Type 0
 HasAct natives source = lacks_native natives source ≡ false
 
--- the sources with one more: no other has its name, their number is in the limit, and a native that it needs is there
+-- the sources with another one: no other has its name, their number is within the limit, and the native that it needs
+-- is present
 abbrev pub source_after : (natives : List (List ℕ)) → List Source → Source → Result (List Source) Unfit
 source_after natives sources source =
     if list_any (bytes_eq source.name) (names_of sources) then Err (unfits.Source source.name (rules.Twice (length sources)))

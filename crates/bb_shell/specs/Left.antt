@@ -1,4 +1,4 @@
--- What a run leaves on its blackboard, as a document of first units.
+-- What a run leaves on its blackboard, as a document of initial units.
 use Rattle.std.specs.Prelude.{◌≡◌, ℕ, ℤ, List, Result, Some, IsSomeAnd}
 use Rattle.bb_board_document.specs.Document.{units_text}
 use Rattle.bb_board_document.specs.Loading.{LoadsAs}
@@ -17,7 +17,7 @@ use Rattle.bb_shell.specs.declared.texts.Texts.{Texts}
 abbrev pub meaning_of : List Native → Texts → (floor : ℤ) → Result Meaning InputFault
 meaning_of natives t floor = meaning (native_names natives) t.schema.now t.units.now t.sources.now t.bundle.now floor
 
--- what stands on the blackboard that a run leaves
+-- the contents of the blackboard that a run leaves
 abbrev pub left_by : List Native → (limit : ℕ) → Meaning → Sight
 left_by natives limit m = sight_of (run m.plan m.board natives limit).state.board
 
@@ -25,12 +25,12 @@ left_by natives limit m = sight_of (run m.plan m.board natives limit).state.boar
 abbrev pub left_text : List Native → (limit : ℕ) → Meaning → List ℕ
 left_text natives limit m = units_text (left_by natives limit m)
 
--- the run ends by this finish, and was not cut short
+-- the run ends with this finish, and was not cut short
 abbrev pub EndsBy : List Native → (limit : ℕ) → Meaning → Finish → Type 0
 EndsBy natives limit m f = IsSomeAnd (end_of f) (λ end. (run m.plan m.board natives limit).end ≡ Some end)
 
--- a text is a document of first units without a fault, and a blackboard that loads it stands as the run's own in the end,
--- under numbers without gaps
+-- a text is a document of initial units without a fault, and a blackboard that loads it has the contents of the run's
+-- final one, under numbers without gaps
 abbrev pub LoadsAsLeft : List Native → (limit : ℕ) → Meaning → (text : List ℕ) → Type 0
 LoadsAsLeft natives limit m text =
     let seen = left_by natives limit m in LoadsAs seen.schema text (renumbered seen)

@@ -8,7 +8,7 @@ pub mod Sources
 pub mod Meaning
 -- how far a text was written
 pub mod Written
--- the lines of a check, and what of them is written
+-- the lines of a check, and how far they are written
 pub mod CheckText
 pub mod Check
 -- the bundle of the sources that are text
@@ -20,7 +20,7 @@ pub mod proving
 -- of bb_refusal: why an input is refused, and the line of a refusal
 pub use Rattle.bb_refusal.specs.Refusals
 pub use Rattle.bb_refusal.specs.declared.input_fault.InputFault
--- of bb_run: what a part of a run emits, what of it was written, and what an event brings about
+-- of bb_run: what a part of a run emits, how much of it was written, and the response to an event
 pub use Rattle.bb_run.specs.Emission
 pub use Rattle.bb_run.specs.Emitting
 pub use Rattle.bb_run.specs.Note
@@ -31,7 +31,7 @@ pub use Rattle.bb_run.specs.Seen
 pub use Rattle.bb_run.specs.Run
 pub use Rattle.bb_run.specs.Order
 pub use Rattle.bb_run.specs.Unstuck
--- of bb_run: how a run ends, by what `run` returns, and what was written where it was cut short
+-- of bb_run: how a run ends, by what `run` returns, and what was written if it was cut short
 pub use Rattle.bb_run.specs.End
 pub use Rattle.bb_run.specs.Finish
 pub use Rattle.bb_run.specs.declared.finish.Finish as Finishes

@@ -11,10 +11,10 @@ use Rattle.bb_shell.specs.Sources.{given}
 
 pub record Meaning : Type 0 where
   pub plan : Plan
-  -- the first units and their links, with what was noted of them
+  -- the initial units and their links, with what was noted of them
   pub board : Board
 
--- the schema, the first units and the sources of both texts, read in this order, with natives of these names
+-- the schema, the initial units and the sources of both texts, read in this order, with natives of these names
 unfoldable pub meaning :
     (natives : List (List ℕ)) → (schema units sources bundle : List ℕ) → (floor : ℤ) → Result Meaning InputFault
 meaning natives schema units sources bundle floor = do

@@ -9,7 +9,7 @@ abbrev pub is_cut : Done → Bool
 is_cut Written = false
 is_cut Write = true
 
--- the output took a text, or, where it failed, a front of it
+-- the output took a text, or a prefix of it if the output failed
 abbrev pub Wrote : (text : List ℕ) → Done → (taken given : Option (List ℕ)) → Type 0
 Wrote text Written taken given = Appends taken given text
 Wrote text Write taken given = (count : ℕ) × Appends taken given (take count text)

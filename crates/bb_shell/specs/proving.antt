@@ -1,2 +1,2 @@
--- what comes of the sources of an input, one after another
+-- the outcome of an input's sources, one by one
 pub mod Gathering

@@ -1,4 +1,4 @@
-//! The codes of a source, each accepted for its part. What an input means (sources.rt) begins with it.
+//! Accepts the codes of a source, each for its part. The meaning of an input (sources.rt) begins with it.
 
 ghost use Rattle.std.specs.Prelude.{◌≡◌, IfOk};
 ghost use Rattle.bb_basis.specs.Results.{Gives, map_err};
@@ -25,8 +25,8 @@ pub(crate) enum CodeFault {
     Memory,
 }
 
-/// A source with its codes accepted. Its classes are looked up first, then each code is verified, in the order in which
-/// a bundle has them.
+/// Accepts the codes of a source. Its classes are looked up first, then each code is verified, in the order of a
+/// bundle.
 pub(crate) fn accept(
     alloc: Global,
     schema: &Schema,
@@ -55,7 +55,7 @@ fn look_up(
     }
 }
 
-// What was accepted of the source of this name: a fault of its codes becomes one of the source.
+// The accepted source with this name; a fault of its codes becomes a fault of the source.
 fn in_source(
     name: Text,
     accepted: Result<SourceDraft<Checked>, CodeFault>,
@@ -69,7 +69,7 @@ fn in_source(
     }
 }
 
-// Accepts the parts that a source has besides its act, in the order in which a bundle has them.
+// Accepts the parts of a source besides its act, in the order of a bundle.
 #[tactic(auto, unfolding(crate::specs::Accepting::accepted_parts))]
 fn accept_parts(
     alloc: Global,
@@ -102,7 +102,7 @@ fn accept_parts(
     Ok(parts)
 }
 
-// A draft with its codes accepted.
+// Accepts the codes of a draft, the act's last.
 #[tactic(auto, unfolding(crate::specs::Accepting::accepted_draft))]
 fn accept_draft(
     alloc: Global,
@@ -134,7 +134,7 @@ fn accept_code(alloc: Global, schema: &Schema, part: Part, code: Code) -> Result
     }
 }
 
-// Accepts the code of a part, if the source has it.
+// Accepts the code of a part, if the source has the part.
 fn accept_part(
     alloc: Global,
     schema: &Schema,
@@ -149,7 +149,7 @@ fn accept_part(
     }
 }
 
-// Accepts the code of a reaction, if the source has it.
+// Accepts the code of a reaction, if the source has the reaction.
 fn accept_reaction(
     alloc: Global,
     schema: &Schema,

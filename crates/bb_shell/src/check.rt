@@ -1,5 +1,5 @@
-//! The check of an input: its sources are verified and made, nothing is run, and what their parts cost is written.
-//! Programs (bb_main) call `check_sources`, hosts `check_texts`.
+//! Checks an input: its sources are verified and made, nothing is run, and the costs of their parts are written.
+//! Programs (bb_main) call `check_sources`, hosts call `check_texts`.
 
 ghost use Rattle.std.specs.Prelude.{◌≡◌, ◌⊎◌, Ok, true, false, map, IfErr, IfOk, OnErr};
 ghost use Rattle.bb_basis.specs.Results.{Gives, map_err};
@@ -20,14 +20,14 @@ use std::alloc::Global;
 
 /// An input that was checked.
 pub struct Check {
-    /// How far the lines on the input were written.
+    /// How far the lines about the input were written.
     pub done: Done,
     pub schema: Schema,
     /// The sources of the input: those that are text, then those of the bundle.
     pub sources: Vec<Source>,
 }
 
-// By hand, so that a proof meets one call where it is dropped, and not each of its parts.
+// By hand: proofs then meet one call per drop, not one per part.
 impl Drop for Check {
     fn drop(self) {
         let Check {
@@ -38,9 +38,9 @@ impl Drop for Check {
     }
 }
 
-/// Reads a schema and sources, as text and of a bundle, verifies all codes of all of them, and writes what the parts of
-/// each source cost, and how many sources there are. No units are read; else an input is refused as by `run_texts`, and
-/// then nothing is written. Each native is closed once, in order, and none is called. `Memory`: memory ran out.
+/// Reads a schema and sources, as text and from a bundle, verifies all their codes, and writes the costs of each
+/// source's parts and the number of sources. No units are read. Otherwise an input is refused as by `run_texts`, and
+/// then nothing is written. Every native is closed once, in order, and none is called. `Memory`: memory ran out.
 pub fn check_sources<N: NativeSource, O: Out>(
     alloc: Global,
     schema: &str,
@@ -52,7 +52,8 @@ pub fn check_sources<N: NativeSource, O: Out>(
     requires open { O.has_failed out.old ≡ false }
     requires natives { all_open (map N.meaning natives.items) ≡ true }
 
-    // At `Ok` the sources are those of the texts, and the output took the lines on them, at `Write` a front of these.
+    // `Ok`: the sources are those of the texts, and the output took the lines about them; at `Write`, a prefix of the
+    // lines.
     ensures text { IfOk result (λ c.
         WritesCheck (sources_in (native_names (map N.meaning natives.items)) schema.now sources.now bundle.now)
         c.done (O.taken out.old) (O.taken out.new)) }
@@ -61,10 +62,10 @@ pub fn check_sources<N: NativeSource, O: Out>(
         ≡ Ok c.sources.items) }
     ensures schema { IfOk result (λ c. map_err InputFault.Schema (schema_of schema.now) ≡ Ok c.schema) }
 
-    // `Write` says that the output has failed.
+    // `Write` means that the output has failed.
     ensures failed { IfOk result (λ c. O.has_failed out.new ≡ is_cut c.done) }
 
-    // At `Err` the fault is the first refusal, and the output is as it was.
+    // `Err`: the fault is the first refusal, and the output is unchanged.
     ensures refused { IfErr result (λ e. (e ≡ InputFault.Memory)
         ⊎ (sources_in (native_names (map N.meaning natives.items)) schema.now sources.now bundle.now ≡ Err e)) }
     ensures quiet { OnErr result (out.new ≡ out.old) }
@@ -83,7 +84,7 @@ pub fn check_sources<N: NativeSource, O: Out>(
     })
 }
 
-/// `check_sources`, without what was checked.
+/// Checks an input as `check_sources` does, and returns only how far the lines were written.
 pub fn check_texts<N: NativeSource, O: Out>(
     alloc: Global,
     schema: &str,
@@ -95,15 +96,16 @@ pub fn check_texts<N: NativeSource, O: Out>(
     requires open { O.has_failed out.old ≡ false }
     requires natives { all_open (map N.meaning natives.items) ≡ true }
 
-    // At `Ok` the sources are those of the texts, and the output took the lines on them, at `Write` a front of these.
+    // `Ok`: the sources are those of the texts, and the output took the lines about them; at `Write`, a prefix of the
+    // lines.
     ensures text { IfOk result (λ done.
         WritesCheck (sources_in (native_names (map N.meaning natives.items)) schema.now sources.now bundle.now)
         done (O.taken out.old) (O.taken out.new)) }
 
-    // `Write` says that the output has failed.
+    // `Write` means that the output has failed.
     ensures failed { IfOk result (λ done. O.has_failed out.new ≡ is_cut done) }
 
-    // At `Err` the fault is the first refusal, and the output is as it was.
+    // `Err`: the fault is the first refusal, and the output is unchanged.
     ensures refused { IfErr result (λ e. (e ≡ InputFault.Memory)
         ⊎ (sources_in (native_names (map N.meaning natives.items)) schema.now sources.now bundle.now ≡ Err e)) }
     ensures quiet { OnErr result (out.new ≡ out.old) }

@@ -1,4 +1,4 @@
-//! The lines of a check (`check_texts` writes them): for each source what its parts cost, then the number of sources.
+//! The lines of a check (`check_texts` writes them): the costs of each source's parts, then the number of sources.
 
 ghost use Rattle.std.specs.Prelude.{◌≡◌, ◌++◌, IfOk, OnOk, option_map, string_bytes};
 ghost use Rattle.bb_shell.specs.CheckText.{act_text, check_text, part_line, part_text, source_text};
@@ -9,7 +9,7 @@ use bb_verify::Checked;
 use std::alloc::{AllocError, Global};
 use std::fmt::Write;
 
-/// The lines of all sources in order, and then their number.
+/// Returns the lines of all sources, in order, and then their number. The error: out of memory.
 pub(crate) fn check_text(alloc: Global, sources: &[Source]) -> Result<String, AllocError>
     ensures { IfOk result (λ text. string_bytes text ≡ check_text sources.now) }
 {
@@ -22,7 +22,7 @@ pub(crate) fn check_text(alloc: Global, sources: &[Source]) -> Result<String, Al
     Ok(text)
 }
 
-// Appends the lines of a source, a part a line, in the order in which a bundle has them.
+// Appends the lines of a source, one per part, in the order of a bundle.
 fn add_source(text: &mut String, source: &Source) -> Result<(), AllocError>
     ensures { OnOk result (string_bytes text.new ≡ string_bytes text.old ++ source_text source.now) }
 {
@@ -44,7 +44,7 @@ fn code_of(reaction: &Option<Reaction>) -> Option<&Question>
     }
 }
 
-// Appends the line of a part, if the source has it.
+// Appends the line of a part, if the source has the part.
 fn add_part(
     text: &mut String,
     name: &str,

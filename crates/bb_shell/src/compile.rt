@@ -1,4 +1,4 @@
-//! The bundle of an input's sources that are text. Programs (bb_main) call `compile_texts`.
+//! Bundles an input's sources that are text. Programs (bb_main) call `compile_texts`.
 
 ghost use Rattle.std.specs.Prelude.{◌≡◌, ◌⊎◌, true, false, map, IfErr, IfOk, OnErr};
 ghost use Rattle.bb_basis.specs.Results.{Gives};
@@ -14,9 +14,10 @@ use bb_refusal::InputFault;
 use bb_run::{NativeSource, Out, close_each};
 use std::alloc::Global;
 
-/// Reads a schema and a text of sources, compiles these, and writes them as a bundle. Neither units nor a bundle are
-/// read, and nothing is verified. An input is refused at the first step that refuses it: schema, text, then source by
-/// source; then nothing is written. Each native is closed once, in order, and none is called. `Memory`: memory ran out.
+/// Reads a schema and a text of sources, compiles the sources, and writes them as a bundle. Reads neither units nor a
+/// bundle and verifies nothing. An input is refused at the first step that refuses it: schema, text, then source by
+/// source; then nothing is written. Every native is closed once, in order, and none is called. `Memory`: memory ran
+/// out.
 pub fn compile_texts<N: NativeSource, O: Out>(
     alloc: Global,
     schema: &str,
@@ -27,17 +28,17 @@ pub fn compile_texts<N: NativeSource, O: Out>(
     requires open { O.has_failed out.old ≡ false }
     requires natives { all_open (map N.meaning natives.items) ≡ true }
 
-    // At `Ok` the output took the text of a bundle of the sources of the text, at `Write` a front of it.
+    // `Ok`: the output took the text of a bundle of the text's sources; at `Write`, a prefix of it.
     ensures text { IfOk result (λ done.
         WritesBundle (bundle_in schema.now sources.now) done (O.taken out.old) (O.taken out.new)) }
 
-    // The bundle that was written is read as the same sources.
+    // The written bundle is read as the same sources.
     ensures again { IfOk result (λ _. IsReadAgain (bundle_in schema.now sources.now)) }
 
-    // `Write` says that the output has failed.
+    // `Write` means that the output has failed.
     ensures failed { IfOk result (λ done. O.has_failed out.new ≡ is_cut done) }
 
-    // At `Err` the fault is the first refusal, and the output is as it was.
+    // `Err`: the fault is the first refusal, and the output is unchanged.
     ensures refused { IfErr result (λ e. (e ≡ InputFault.Memory) ⊎ (bundle_in schema.now sources.now ≡ Err e)) }
     ensures quiet { OnErr result (out.new ≡ out.old) }
 {

@@ -1,5 +1,5 @@
-//! The sources of an input that are text: they are read, and then each is compiled. All sources of an input (given.rt)
-//! and its bundle (compile.rt) begin with them.
+//! The sources of an input that are text: all are read, then each is compiled. All sources of an input (given.rt) and
+//! its bundle (compile.rt) begin with them.
 
 ghost use Rattle.bb_basis.specs.Results.{Gives, map_err, try_map};
 ghost use Rattle.bb_lang.specs.Sources.{sources_of as trees_of};
@@ -13,7 +13,7 @@ use bb_refusal::InputFault;
 use bb_schema::Schema;
 use std::alloc::Global;
 
-/// The sources of a text, with their codes. The text is read as a whole before a source is compiled.
+/// Compiles the sources of a text. The whole text is read before any source is compiled.
 #[tactic(auto, unfolding(crate::specs::Sources::compiled_text))]
 pub(crate) fn compiled_text(
     alloc: Global,
@@ -50,7 +50,7 @@ fn compile_all(
     Ok(codes)
 }
 
-// Compiles the source of a tree. A fault comes with the source's name.
+// Compiles the source of a tree. A fault has the source's name.
 fn compile_source(
     alloc: Global,
     schema: &Schema,

@@ -1,4 +1,4 @@
-//! The sources that run together. `Shell::new` and `run_texts` have each fit those before it.
+//! The sources that run together. `Shell::new` and `run_texts` check that each fits the earlier ones.
 
 ghost use Rattle.std.specs.Prelude.{◌≡◌, ◌≤◌, ◌<◌, ◌∷◌, ◌++◌, [], false, length, vec_len};
 ghost use Rattle.std.specs.Prelude.{OnErr, OnOk, position};
@@ -19,19 +19,19 @@ use std::marker::Model;
 /// Why sources do not run together.
 #[derive(Drop)]
 pub(crate) enum Unfit {
-    /// The source of this name does not fit those before it.
+    /// The source with this name does not fit the earlier ones.
     Source { name: Text, fault: RuleFault },
     /// Memory ran out.
     Memory,
 }
 
-/// Sources that run together, in order: each fits those before it. Contracts see them as their list.
+/// Sources that run together, in order: each fits the earlier ones. Contracts see them as a list.
 pub(crate) struct SourceSet {
     names: Names,
     sources: Vec<Source>,
 }
 
-// By hand, so that a proof meets one call where it is dropped, and not each of its parts.
+// By hand: proofs then meet one call per drop, not one per part.
 impl Drop for SourceSet {
     fn drop(self) {
         let SourceSet {
@@ -63,7 +63,7 @@ fn is_native(act: &Act) -> bool
     matches!(act, Act::Native)
 }
 
-// The place of the first native of a name.
+// The place of the first native with a name.
 fn place_of(natives: &[Closing], name: &str) -> Option<usize>
     ensures { result ≡ position (λ (c : Closing). bytes_eq c.name name.now) natives.now }
 {
@@ -72,14 +72,14 @@ fn place_of(natives: &[Closing], name: &str) -> Option<usize>
         .position(|native| native.name.as_str() == name)
 }
 
-// Whether there is a native of a name.
+// Whether there is a native with a name.
 fn has_native(natives: &[Closing], name: &str) -> bool
     ensures { result ≡ has_native (names_in natives.now) name.now }
 {
     place_of(natives, name).is_some()
 }
 
-// Whether a source needs a native that is not there.
+// Whether a source needs a native that is missing.
 fn lacks_native(natives: &[Closing], source: &Source) -> bool
     ensures { result ≡ lacks_native (names_in natives.now) source.now }
 {
@@ -99,14 +99,15 @@ fn refuse(source: Source, fault: RuleFault) -> Unfit
     Unfit::Source { name, fault }
 }
 
-// Drops a source, as memory ran out.
+// Drops a source because memory ran out.
 fn give_up(_source: Source) -> Unfit
     ensures { result ≡ OutOfMemory }
 {
     Unfit::Memory
 }
 
-// Makes room for one source more, and adds its name, which no other source has. An error changes nothing.
+// Reserves space for another source and adds its name, which no other source has. An error changes neither names nor
+// sources.
 fn make_room(
     alloc: Global,
     names: &mut Names,
@@ -124,7 +125,7 @@ fn make_room(
     Ok(())
 }
 
-// Adds a source with its name, if it fits those before it. An error changes nothing.
+// Adds a source with its name, if it fits the earlier ones. An error changes nothing.
 fn fit(
     alloc: Global,
     natives: &[Closing],
@@ -160,7 +161,7 @@ fn fit(
 }
 
 impl SourceSet {
-    /// No sources. It allocates nothing.
+    /// Creates an empty set. Allocates nothing.
     pub(crate) fn new(alloc: Global) -> SourceSet
         ensures { result ≡ [] }
     {
@@ -170,8 +171,8 @@ impl SourceSet {
         }
     }
 
-    /// Adds a source, which has to fit those before it: no other has its name, there are 256 at most, and a native that
-    /// it needs is there.
+    /// Adds a source, which must fit the earlier ones: no other has its name, there are at most 256, and the native
+    /// that it needs is present.
     pub(crate) fn add(
         &mut self,
         alloc: Global,
@@ -183,7 +184,7 @@ impl SourceSet {
         fit(alloc, natives, &mut self.names, &mut self.sources, source)
     }
 
-    /// The sources.
+    /// Returns the sources.
     pub(crate) fn into_sources(self) -> Vec<Source>
         ensures sources { result.items ≡ self }
         ensures few { length result.items ≤ SOURCE_LIMIT }
@@ -193,7 +194,7 @@ impl SourceSet {
     }
 }
 
-/// All sources in order, if each fits those before it.
+/// Returns all sources in order, if each fits the earlier ones.
 pub(crate) fn fit_all(
     alloc: Global,
     natives: &[Closing],

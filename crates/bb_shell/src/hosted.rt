@@ -1,4 +1,4 @@
-//! A shell whose host answers for natives. Hosts that hold a run make one of an input.
+//! A shell whose host answers for natives. Hosts that hold a run make one from an input.
 
 ghost use Rattle.std.specs.Prelude.{◌≡◌, ◌++◌, true, false, map, All, None, IfOk, OnOk};
 ghost use Rattle.bb_basis.specs.Results.{Gives};
@@ -13,9 +13,10 @@ use bb_refusal::InputFault;
 use bb_run::{Board, Closing, NativeSource, Plan, Roster};
 use std::alloc::{AllocError, Global};
 
-/// A blackboard and the sources that run on it, which may act by natives that were handed in, and by natives of the
-/// names for which the host answers. Its run is held by the host: where one of these is due it stops, and the host
-/// answers (`Running::answer` of bb_run_held). It can't be dropped, as its natives have to be closed: `into_parts` spends it.
+/// A blackboard and the sources that run on it, which may act by natives handed in, and by natives with names that the
+/// host answers for. The host holds its run: it stops when one of the latter is due, and the host answers
+/// (`Running::answer` of bb_run_held). It can't be dropped, because its natives must be closed: `into_parts` consumes
+/// it.
 pub struct HostedShell<N: NativeSource> {
     plan: Plan,
     board: Board,
@@ -25,8 +26,8 @@ pub struct HostedShell<N: NativeSource> {
 }
 
 impl<N: NativeSource> HostedShell<N> {
-    /// A shell of the texts of an input, as `Shell::of_texts` makes one, but that a source may also act by a native of
-    /// one of the names `outside`. At a refusal each native that was handed in is closed, in order.
+    /// Creates a shell from the texts of an input, as `Shell::of_texts` does; but a source may also act by a native
+    /// with one of the names `outside`. If the input is refused, every native handed in is closed, in order.
     pub fn of_texts(
         alloc: Global,
         texts: &Texts<'_>,
@@ -54,14 +55,14 @@ impl<N: NativeSource> HostedShell<N> {
         }
     }
 
-    /// The sources and the schema, and the floor.
+    /// Returns the plan: the sources, the schema and the floor.
     pub fn plan(&self) -> &Plan
         ensures { result.now ≡ self.now.plan }
     {
         &self.plan
     }
 
-    /// The plan, the blackboard and the natives, of which `Running::of_hosted` (bb_run_held) begins a run.
+    /// Returns the plan, the blackboard and the natives, with which `Running::of_hosted` (bb_run_held) begins a run.
     pub fn into_parts(self) -> (Plan, Board, Roster<N>)
         ensures plan { result.0 ≡ self.plan }
         ensures board { result.1 ≡ self.board }
@@ -78,7 +79,7 @@ impl<N: NativeSource> HostedShell<N> {
     }
 }
 
-// What an input means, where the host answers for natives.
+// What an input means if the host answers for natives.
 fn read_hosted(
     alloc: Global,
     natives: &[Closing],
@@ -95,7 +96,7 @@ fn read_hosted(
     read_input(alloc, known.as_slice(), texts, floor)
 }
 
-// The same natives.
+// A copy of natives.
 fn copied(alloc: Global, natives: &[Closing]) -> Result<Vec<Closing>, AllocError>
     ensures { IfOk result (λ v. names_in v.items ≡ names_in natives.now) }
 {
@@ -109,7 +110,7 @@ fn copied(alloc: Global, natives: &[Closing]) -> Result<Vec<Closing>, AllocError
     Ok(made)
 }
 
-// Adds natives of these names.
+// Adds natives with these names.
 fn add_names(known: &mut Vec<Closing>, names: Vec<Text>) -> Result<(), AllocError>
     ensures { OnOk result (names_in known.new.items ≡ names_in known.old.items ++ names.items) }
 {

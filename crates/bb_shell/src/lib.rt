@@ -1,12 +1,13 @@
-//! The blackboard shell: what an input's texts mean, which inputs are refused, and their run.
+//! The blackboard shell: what the texts of an input mean, which inputs are refused, and their run.
 //!
-//! - In: the texts of a schema, of first units and of sources or a bundle; natives, a limit, a floor, and an output.
-//! - Out: `run_texts` runs them, `units_texts` writes the units that their run leaves as a document of first units,
-//!   `check_texts` reports what their sources cost, `compile_texts` is the bundle of their texts; a `Shell` holds a
-//!   blackboard and sources for hosts that run more than once, and a `HostedShell` for hosts that answer for natives.
-//! - Callers rely on: the first fault in the order of the texts refuses the input, and then nothing is written. A
-//!   blackboard that loads what `units_texts` writes stands as the run's own in the end, under numbers without gaps.
-//! - Hosts: docs/hosts/EMBEDDING.md, and bb_shell_host, which is one.
+//! - In: the texts of a schema, of initial units, and of sources or a bundle; natives, a limit, a floor, and an output.
+//! - Out: `run_texts` runs the texts; `units_texts` writes the units that their run leaves as a document of initial
+//!   units; `check_texts` reports what their sources cost; `compile_texts` bundles their sources. A `Shell` holds a
+//!   blackboard and sources for hosts that run more than once, a `HostedShell` for hosts that answer for natives.
+//! - Callers rely on: the first fault, in the order of the texts, refuses the input, and then nothing is written. A
+//!   blackboard that loads what `units_texts` writes has the contents of the run's final one, under numbers without
+//!   gaps.
+//! - Hosts: docs/hosts/EMBEDDING.md, and the host bb_shell_host.
 //! - Cases: `refusals`, `check`, `examples_in_text`, `language`, `units_left`, `model-texts`, `model-checks`; tests in
 //!   bb_shell_tests.
 #![tactic(auto)]

@@ -1,4 +1,4 @@
-//! A blackboard with the sources that run on it. Hosts make one and run it, and `run_texts` makes one of an input.
+//! A blackboard with the sources that run on it. Hosts make one and run it; `run_texts` makes one from an input.
 
 ghost use Rattle.std.specs.Prelude.{◌≡◌, ◌≤◌, true, false, length, map, All, None, Some, IfOk, IfSome, IsSomeAnd};
 ghost use Rattle.std.specs.Io.KnownBytes.{Appends};
@@ -23,9 +23,9 @@ use bb_run::{
 };
 use std::alloc::Global;
 
-/// A blackboard, the sources that run on it in their order, the natives that were handed in, and the least rating that
-/// can be chosen (GBBopen Reference Manual, Agenda Shell). It can't be dropped, as its natives have to be closed: `run`,
-/// `run_to_end` and `into_parts` spend it.
+/// A blackboard, the sources that run on it, in order, the natives handed in, and the minimum rating that can be chosen
+/// (GBBopen Reference Manual, Agenda Shell). It can't be dropped, because its natives must be closed: `run`,
+/// `run_to_end` and `into_parts` consume it.
 pub struct Shell<N: NativeSource> {
     plan: Plan,
     board: Board,
@@ -36,10 +36,10 @@ pub struct Shell<N: NativeSource> {
 }
 
 impl<N: NativeSource> Shell<N> {
-    /// A shell of these sources in their order, with the natives of a roster. The host has made the sources under the
-    /// schema of the blackboard, of codes that were verified under it. The fault is the first, source by source:
-    /// `Twice`, `Limit` past 256 sources, `Native` if no native of its name was handed in. At a fault each native is
-    /// closed, in order, and blackboard and sources are dropped.
+    /// Creates a shell of these sources, in order, with the natives of a roster. The host has made the sources under
+    /// the schema of the blackboard, from codes that were verified under it. The fault is the first, source by source:
+    /// `Twice`; `Limit` past 256 sources; `Native` if no native of its name was handed in. `Memory`: memory ran out.
+    /// After a fault every native is closed, in order, and blackboard and sources are dropped.
     pub fn new(
         alloc: Global,
         board: Board,
@@ -66,9 +66,9 @@ impl<N: NativeSource> Shell<N> {
         }
     }
 
-    /// A shell of the texts of an input, with the natives that were handed in: schema, first units, the sources that are
-    /// text and then those of a bundle. An input is refused at the first step that refuses it, in the order of
-    /// `run_texts`; then each native is closed, in order.
+    /// Creates a shell from the texts of an input, with the natives handed in: schema, initial units, the sources that
+    /// are text and then those of a bundle. An input is refused at the first step that refuses it, in the order of
+    /// `run_texts`; then every native is closed, in order.
     pub fn of_texts(
         alloc: Global,
         texts: &Texts<'_>,
@@ -95,8 +95,8 @@ impl<N: NativeSource> Shell<N> {
         }
     }
 
-    /// Runs the shell, at most `limit` cycles, and writes the trace. Each native is closed once, in order, whatever
-    /// comes of the run. `Memory`: memory ran out. `Write`: the output failed.
+    /// Runs the shell for at most `limit` cycles and writes the trace. Every native is closed once, in order, however
+    /// the run ends. `Memory`: memory ran out. `Write`: the output failed.
     pub fn run<O: Out>(self, alloc: Global, limit: u32, out: &mut O) -> Finish
         requires open { O.has_failed out.old ≡ false }
         ensures finish { IfSome (end_of result) (λ end.
@@ -115,7 +115,7 @@ impl<N: NativeSource> Shell<N> {
         run(alloc, &plan, Start { board, roster }, limit, out)
     }
 
-    /// Runs the shell as `run` does, and gives how the run ended and the blackboard that it leaves. `Memory`: memory ran
+    /// Runs the shell as `run` does; returns how the run ended and the blackboard that it leaves. `Memory`: memory ran
     /// out. `Write`: the output failed.
     pub fn run_to_end<O: Out>(
         self,
@@ -140,15 +140,15 @@ impl<N: NativeSource> Shell<N> {
         run_to_end(alloc, &plan, Start { board, roster }, limit, out)
     }
 
-    /// The sources and the schema, and the floor.
+    /// Returns the plan: the sources, the schema and the floor.
     pub fn plan(&self) -> &Plan
         ensures { result.now ≡ self.now.plan }
     {
         &self.plan
     }
 
-    /// The plan, the blackboard and the natives, of which `Running::of_shell` (bb_run_held) begins a run that the host
-    /// holds.
+    /// Returns the plan, the blackboard and the natives, with which `Running::of_shell` (bb_run_held) begins a run that
+    /// the host holds.
     pub fn into_parts(self) -> (Plan, Board, Roster<N>)
         ensures plan { result.0 ≡ self.plan }
         ensures board { result.1 ≡ self.board }
@@ -165,7 +165,7 @@ impl<N: NativeSource> Shell<N> {
     }
 }
 
-// The plan of sources for a blackboard and the natives that were handed in.
+// The plan of sources for a blackboard and the natives handed in.
 #[tactic(auto, unfolding(crate::specs::Shell::shell_of))]
 fn plan_for(
     alloc: Global,

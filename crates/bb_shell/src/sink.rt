@@ -1,8 +1,8 @@
-//! An output that keeps nothing. A run of which the blackboard alone is wanted writes to it.
+//! An output that keeps nothing. A run that is made only for its blackboard writes to it.
 
 use crate::Out;
 
-/// An output that takes whatever it is given, keeps none of it, and never fails.
+/// An output that takes everything, keeps nothing, and never fails.
 #[derive(Drop)]
 pub(crate) struct Sink;
 

@@ -1,4 +1,4 @@
-//! The sources that run together, from what a bundle spells. `run_texts` calls `sources_for`.
+//! The sources that run together, from their codes. given.rt calls `sources_for`.
 
 ghost use Rattle.std.specs.Prelude.{◌≡◌, ◌≤◌, length, IfOk, Ok, Err};
 ghost use Rattle.bb_basis.specs.Results.{Gives};
@@ -16,20 +16,20 @@ use bb_schema::Schema;
 use bb_verify::Checked;
 use std::alloc::{AllocError, Global};
 
-/// What comes of the sources so far, whose codes are all accepted.
+/// The outcome of the sources so far, whose codes are all accepted.
 #[derive(Drop)]
 pub(crate) enum Resolution {
-    /// Each source fits those before it.
+    /// Each source fits the earlier ones.
     Fit(SourceSet),
-    /// A source does not fit those before it. One after it whose names are not found is refused first.
+    /// A source does not fit the earlier ones. A later source whose names can't be resolved is refused first.
     Unfit(Unfit),
-    /// The names of a source are not found. One after it whose code is not accepted is refused first.
+    /// The names of a source can't be resolved. A later source whose code is not accepted is refused first.
     Unresolved(InputFault),
 }
 
-/// The sources that run together: the codes of each are accepted, then the names of each are resolved, then each has to
-/// fit those before it. The fault is that of the first step that refuses one, and no source is kept after one that
-/// does not fit.
+/// Returns the sources that run together: the codes of each are accepted, then the names of each are resolved, then
+/// each must fit the earlier ones. The fault is that of the first step that refuses a source. No source is kept after
+/// one that does not fit.
 pub(crate) fn sources_for(
     alloc: Global,
     natives: &[Closing],
@@ -64,7 +64,7 @@ fn gather_all(
     Ok(resolution)
 }
 
-// What comes of the sources with one more.
+// The outcome with another source.
 fn gather(
     alloc: Global,
     natives: &[Closing],
@@ -85,7 +85,7 @@ fn gather(
     }
 }
 
-// What comes of the sources with one more, where each before it fits.
+// The outcome with another source, if all earlier ones fit.
 fn gather_fit(
     alloc: Global,
     natives: &[Closing],
@@ -102,7 +102,7 @@ fn gather_fit(
     }
 }
 
-// What comes of the sources with one more, where one before it does not fit.
+// The outcome with another source, if an earlier one does not fit.
 fn gather_unfit(
     alloc: Global,
     natives: &[Closing],

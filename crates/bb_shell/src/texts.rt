@@ -1,4 +1,4 @@
-//! A run from the texts of its schema, first units and sources. Programs (bb_main) call it.
+//! Runs the texts of a schema, initial units and sources. Programs (bb_main) call it.
 
 ghost use Rattle.std.specs.Prelude.{◌≡◌, ◌⊎◌, true, false, map, All, IfOk, IfErr, IfSome, OnErr, Ok, Err, Some};
 ghost use Rattle.std.specs.Io.KnownBytes.{Appends};
@@ -21,11 +21,11 @@ use bb_run::{Board, Closing, Finish, NativeSource, Out, Plan, SharedSchema, Unit
 use bb_schema::{Schema, SchemaFault};
 use std::alloc::Global;
 
-/// Runs a schema, its first units, the sources that are text and then those of a bundle, with at most `limit` cycles
-/// and no activation rated below `floor`, and writes the trace. An input is refused at the first step that refuses it,
-/// in this order: schema, units, the text of sources, their compiling, bundle, codes, rules; then nothing is written.
-/// Each native is closed once, in order, at each answer, whether it was called or not. `Memory` as a refusal and as a
-/// finish: memory ran out.
+/// Runs a schema, its initial units, the sources that are text and then those of a bundle, for at most `limit` cycles
+/// and with no activation rated below `floor`; writes the trace. An input is refused at the first step that refuses it,
+/// in this order: schema, units, the text of sources, their compilation, bundle, codes, rules; then nothing is written.
+/// Every native is closed once, in order, whatever is returned and whether it was called or not. `Memory`, as a refusal
+/// or a finish: memory ran out.
 pub fn run_texts<N: NativeSource, O: Out>(
     alloc: Global,
     schema: &str,
@@ -40,7 +40,7 @@ pub fn run_texts<N: NativeSource, O: Out>(
     requires open { O.has_failed out.old ≡ false }
     requires natives { all_open (map N.meaning natives.items) ≡ true }
 
-    // At `Ok` the input has a meaning, the finish is that of its run, and the output took the text of its trace.
+    // `Ok`: the input has a meaning, the finish is its run's, and the output took the text of the run's trace.
     ensures finish { IfOk result (λ f. (m : Meaning)
         × (meaning (native_names (map N.meaning natives.items)) schema.now units.now sources.now bundle.now floor
         ≡ Ok m)
@@ -51,17 +51,17 @@ pub fn run_texts<N: NativeSource, O: Out>(
         × IfSome (end_of f) (λ _. Appends (O.taken out.old) (O.taken out.new)
         (trace_text m.plan (run m.plan m.board (map N.meaning natives.items) limit).emitted))) }
 
-    // At `Memory` the output took the text of the first segments of the run, at `Write` the front of its trace.
+    // At `Memory` the output took the text of the first segments of the run; at `Write`, a prefix of its trace.
     ensures front { IfOk result (λ f. (m : Meaning)
         × (meaning (native_names (map N.meaning natives.items)) schema.now units.now sources.now bundle.now floor
         ≡ Ok m)
         × WritesFront m.plan (run m.plan m.board (map N.meaning natives.items) limit) f
         (O.taken out.old) (O.taken out.new)) }
 
-    // `Write` says that the output has failed, and no other finish does.
+    // `Write` means that the output has failed, and no other finish does.
     ensures failed { IfOk result (λ f. O.has_failed out.new ≡ is_write f) }
 
-    // At `Err` the fault is the first refusal, and the output is as it was.
+    // `Err`: the fault is the first refusal, and the output is unchanged.
     ensures refused { IfErr result (λ e. (e ≡ InputFault.Memory)
         ⊎ (meaning (native_names (map N.meaning natives.items)) schema.now units.now sources.now bundle.now floor
         ≡ Err e)) }
@@ -82,7 +82,7 @@ pub fn run_texts<N: NativeSource, O: Out>(
 pub struct Texts<'a> {
     /// The document of the schema.
     pub schema: &'a str,
-    /// The document of the first units.
+    /// The document of the initial units.
     pub units: &'a str,
     /// The sources that are text.
     pub sources: &'a str,
@@ -90,7 +90,8 @@ pub struct Texts<'a> {
     pub bundle: &'a str,
 }
 
-/// What an input means. The sources were made under its schema, of codes that the verifier accepted under it.
+/// Returns the meaning of an input. The sources were made under its schema, from codes that the verifier accepted under
+/// it.
 pub(crate) fn read_input(
     alloc: Global,
     natives: &[Closing],
@@ -119,7 +120,7 @@ pub(crate) fn read_schema(alloc: Global, text: &str) -> Result<Schema, InputFaul
     }
 }
 
-// The blackboard with the first units, and its schema.
+// The blackboard with the initial units, and its schema.
 fn first_board(
     alloc: Global,
     schema: Schema,

@@ -1,4 +1,4 @@
-//! An input is run, and the blackboard that is left is written as a document of first units. Programs (bb_main) call
+//! Runs an input and writes the blackboard that is left as a document of initial units. Programs (bb_main) call
 //! `units_texts`.
 
 ghost use Rattle.std.specs.Prelude.{◌≡◌, ◌⊎◌, true, map, IfErr, IfOk, IsOkAnd, IsSomeAnd, Err, Some, string_bytes};
@@ -19,13 +19,13 @@ use std::alloc::{AllocError, Global};
 pub struct Left {
     /// How the run ended.
     pub finish: Finish,
-    /// The units that are left, their links and the members of spaces, as a document of first units.
+    /// The units that are left, their links and the members of spaces, as a document of initial units.
     pub document: String,
 }
 
-/// Runs the texts of an input as `run_texts` does, but writes no trace: what stands on the blackboard in the end is made
-/// a document of first units (`units_document`). Each native is closed once, in order, at each answer. An input is
-/// refused where `run_texts` refuses it, by the same fault. `Memory`: memory ran out, before or after the run ended.
+/// Runs the texts of an input as `run_texts` does, but writes no trace: the final contents of the blackboard become a
+/// document of initial units (`units_document`). Every native is closed once, in order, whatever is returned. An input
+/// is refused if `run_texts` refuses it, with the same fault. `Memory`: memory ran out, before or after the run ended.
 pub fn units_texts<N: NativeSource>(
     alloc: Global,
     texts: &Texts<'_>,
@@ -35,17 +35,17 @@ pub fn units_texts<N: NativeSource>(
 ) -> Result<Left, InputFault>
     requires natives { all_open (map N.meaning natives.items) ≡ true }
 
-    // At `Ok` the input has a meaning, and the finish is that of its run, which was not cut short.
+    // `Ok`: the input has a meaning, and the finish is its run's, which was not cut short.
     ensures finish { IfOk result (λ left. IsOkAnd (meaning_of (map N.meaning natives.items) texts.now floor)
         (λ m. EndsBy (map N.meaning natives.items) limit m left.finish)) }
 
-    // The document is that of the blackboard that the run leaves, and loaded it gives what stands there.
+    // The document is that of the blackboard that the run leaves; loading it gives the contents of that blackboard.
     ensures text { IfOk result (λ left. IsOkAnd (meaning_of (map N.meaning natives.items) texts.now floor)
         (λ m. string_bytes left.document ≡ left_text (map N.meaning natives.items) limit m)) }
     ensures loads { IfOk result (λ left. IsOkAnd (meaning_of (map N.meaning natives.items) texts.now floor)
         (λ m. LoadsAsLeft (map N.meaning natives.items) limit m (string_bytes left.document))) }
 
-    // At `Err` the fault is the first refusal.
+    // `Err`: the fault is the first refusal.
     ensures refused { IfErr result (λ e. (e ≡ InputFault.Memory)
         ⊎ (meaning_of (map N.meaning natives.items) texts.now floor ≡ Err e)) }
 {
@@ -55,8 +55,8 @@ pub fn units_texts<N: NativeSource>(
     Ok(Left { finish, document })
 }
 
-// Runs a shell, and gives how the run ended and the blackboard that it leaves. It fails only for want of memory, as the
-// output takes all.
+// Runs a shell; returns how the run ended and the blackboard that it leaves. It fails only if memory runs out, since
+// the output takes everything.
 fn run_out<N: NativeSource>(
     alloc: Global,
     shell: Shell<N>,

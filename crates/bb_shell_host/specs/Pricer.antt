@@ -1,4 +1,4 @@
--- What the pricer sees, and what it asks for that.
+-- What the pricer sees, and what it asks.
 use Rattle.std.specs.Prelude.{ℕ, ℤ, pos, ◌*ℤ◌, codes, option_and_then}
 use Rattle.std.specs.Option.{option_map_or}
 use Rattle.std.specs.Int.{saturate_signed, w64}
@@ -12,7 +12,7 @@ abbrev pub number_in : Value → ℤ
 number_in (values.Int n) = n
 number_in _ = pos 0
 
--- the number in the slot `weight` of a unit that is live and has one, else 0
+-- the number in the slot `weight` of a unit that is live and has one; otherwise 0
 abbrev pub weight_of : Sight → (unit : ℕ) → ℤ
 weight_of seen unit = option_map_or number_in
     (option_and_then (λ class. option_and_then (λ slot. value_of seen.world.units unit slot)

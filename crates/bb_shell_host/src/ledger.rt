@@ -1,9 +1,9 @@
-//! Where this host has the trace written: a writer, and the number of lines so far.
+//! The output of this host: a writer, and the number of lines written so far. main.rt writes the trace to it.
 
 use bb_shell::{Out, Pipe};
 use std::io::Write;
 
-/// A writer that counts lines. To the shell it is the pipe that it holds.
+/// A writer that counts lines. The shell sees only the pipe in it.
 #[derive(Drop)]
 pub(crate) struct Ledger<W: Write> {
     pipe: Pipe<W>,
@@ -13,7 +13,7 @@ pub(crate) struct Ledger<W: Write> {
 impl<W: Write> Ledger<W> {
     ghost use Rattle.std.specs.Prelude.{◌≡◌, false};
 
-    /// Writes to a writer from now on.
+    /// Creates a ledger that writes to a writer.
     pub(crate) fn new(writer: W) -> Ledger<W>
         ensures { result.pipe.failed ≡ false }
     {
@@ -23,7 +23,7 @@ impl<W: Write> Ledger<W> {
         }
     }
 
-    /// The number of lines that were written.
+    /// Returns the number of lines written.
     pub(crate) fn lines(&self) -> u64 {
         self.lines
     }

@@ -1,5 +1,5 @@
-//! A host of the shell, whole: a native of its own (pricer.rt), an output of its own (ledger.rt), and a run with both.
-//! docs/hosts/EMBEDDING.md goes through it.
+//! A complete host of the shell: its own native (pricer.rt), its own output (ledger.rt), and a run with both.
+//! docs/hosts/EMBEDDING.md explains it.
 #![tactic(auto)]
 
 ghost use Rattle.std.specs.Prelude.{◌≡◌, false};

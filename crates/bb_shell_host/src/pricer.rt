@@ -1,4 +1,4 @@
-//! The native of this host: it prices parcels by their weight.
+//! The native of this host: it prices parcels by weight. main.rt hands it in.
 
 ghost use Rattle.std.specs.Prelude.{◌≡◌, true, map, IfOk};
 ghost use Rattle.bb_shell.specs.Roster.{all_open};
@@ -7,7 +7,8 @@ ghost use Rattle.bb_shell_host.specs.Pricer.{price_of, weight_of};
 use bb_shell::{Ask, Memory, NativeSource, Text, UnitId, Value, View};
 use std::alloc::Global;
 
-/// Asks that the slot `price` of its unit be three times its slot `weight`. It says at its close how many it priced.
+/// Asks to set the slot `price` of its unit to three times its slot `weight`. At its close it reports how many units it
+/// priced.
 #[derive(Drop)]
 pub(crate) struct Pricer {
     count: i64,
@@ -52,7 +53,7 @@ impl NativeSource for Pricer {
     }
 }
 
-// The weight of a unit, 0 where it has none.
+// The weight of a unit, or 0 if it has none.
 fn weight_of(view: &View<'_>, unit: UnitId) -> i64
     ensures { result ≡ weight_of view.now unit }
 {
@@ -72,14 +73,14 @@ fn weight_of(view: &View<'_>, unit: UnitId) -> i64
     }
 }
 
-// Three times a weight, the greatest number at most.
+// Three times a weight, at most the maximum number.
 fn price_of(weight: i64) -> i64
     ensures { result ≡ price_of weight }
 {
     weight.saturating_mul(3)
 }
 
-/// One pricer, open.
+/// Returns one open pricer.
 pub(crate) fn pricers(alloc: Global) -> Result<Vec<Pricer>, Memory>
     ensures { IfOk result (λ natives. all_open (map ⟦<Pricer as NativeSource>⟧.meaning natives.items) ≡ true) }
 {

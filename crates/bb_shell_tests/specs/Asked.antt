@@ -1,4 +1,4 @@
--- What a native of the tests asks, by its role, for a unit.
+-- What a native of the tests asks for a unit, by its role.
 use Rattle.std.specs.Prelude.{ℕ, pos, true, List, [], ◌∷◌, codes}
 use Rattle.bb_shell.specs.Ask.{Ask}
 use Rattle.bb_shell.specs.Ask.TheVariants.{Delete, Enter, Link, New, Say, Set}
@@ -6,7 +6,7 @@ use Rattle.bb_shell.specs.Value.TheVariants as values
 use Rattle.bb_shell_tests.specs.declared.role.Role.{Role}
 use Rattle.bb_shell_tests.specs.declared.role.Role.TheVariants as roles
 
--- one ask for each reason to refuse one, and then two that are applied
+-- one ask for each reason to refuse an ask, and then two that are applied
 abbrev pub each_refusal : List Ask
 each_refusal =
     Delete 9

@@ -1,2 +1,2 @@
--- what a native of the tests asks
+-- what a native of the tests asks for
 pub mod Asked

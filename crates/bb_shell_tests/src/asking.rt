@@ -1,5 +1,5 @@
-//! Natives that ask for what is refused, for the last unit that there is room for, for long texts, and for what they
-//! themselves took away.
+//! Natives that ask for what is refused, for the last unit that fits, for long texts, and for what they removed
+//! themselves.
 
 ghost use Rattle.std.specs.Prelude.{◌≡◌, true, map, IfOk};
 ghost use Rattle.bb_shell.specs.Roster.{all_open};
@@ -36,8 +36,8 @@ const ON_THINGS: &str = "source asker on thing { when create thing; rate 1; nati
 
 const ON_NOTES: &str = "source asker on note { when create note; rate 1; native; }";
 
-// A native that counts its executions, and says how many there were when it is closed, which it leaves in a cell too. It
-// looks for the things in a space, and leaves their number plus one in another.
+// A native that counts its executions, and says their number when it is closed, which it leaves in a cell too. It looks
+// for the things in a space, and leaves their number plus one in another cell.
 #[derive(Drop)]
 struct Asker {
     role: Role,

@@ -1,4 +1,4 @@
-//! What the tests hand in, here and in bb_refusal_tests. That crate names it, so it is not for tests only.
+//! The inputs of the tests. They are public, so they are built without tests too.
 
 /// A schema with one class.
 pub const NOTE_SCHEMA: &str = r#"{"classes":[{"name":"note"}]}"#;

@@ -1,5 +1,5 @@
-//! Tests that cross crates and that no case can say: whether two schemas are the same, natives and what they ask, and a
-//! shell that a host makes of its own board and sources.
+//! Tests across crates that no case can make: whether two schemas are the same; natives and what they ask for; a shell
+//! that a host makes of its own board and sources; and the numbers and reports of refusals.
 #![tactic(auto)]
 
 #[cfg(test)]
@@ -10,9 +10,15 @@ mod looking;
 #[cfg(test)]
 mod natives;
 #[cfg(test)]
+mod outcome;
+#[cfg(test)]
 mod outside;
 #[cfg(test)]
+mod refusals;
+#[cfg(test)]
 mod refused;
+#[cfg(test)]
+mod reports;
 mod role;
 #[cfg(test)]
 mod schemas;

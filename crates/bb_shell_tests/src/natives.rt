@@ -1,4 +1,5 @@
-//! Natives that a host writes, which tell when they are closed, also if an input is refused; and natives of two types.
+//! Natives that a host writes and that record when they are closed, also if an input is refused; and natives of two
+//! types.
 
 ghost use Rattle.std.specs.Prelude.{◌≡◌, true, map, IfOk};
 ghost use Rattle.bb_shell.specs.Roster.{all_open};
@@ -13,7 +14,7 @@ use std::cell::Cell;
 use std::rc::Rc;
 use std::test::Fail;
 
-/// A native with a number, which it appends to those of the natives closed before, when it is closed.
+/// A native with a number. When it is closed, it appends this to the numbers of the natives closed before.
 #[derive(Drop)]
 pub(crate) struct Recorder {
     number: u64,
@@ -95,14 +96,14 @@ fn open_recorder(number: u64, closings: &Rc<Cell<u64>>) -> Result<Recorder, Memo
     })
 }
 
-/// No natives.
+/// Returns an empty list of natives.
 pub(crate) fn no_natives(alloc: Global) -> Vec<Recorder>
     ensures { all_open (map ⟦<Recorder as NativeSource>⟧.meaning result.items) ≡ true }
 {
     Vec::new(alloc)
 }
 
-/// Two natives of one name.
+/// Returns two natives with one name.
 pub(crate) fn recorders(alloc: Global, closings: &Rc<Cell<u64>>) -> Result<Vec<Recorder>, Memory>
     ensures { IfOk result (λ natives. all_open (map ⟦<Recorder as NativeSource>⟧.meaning natives.items) ≡ true) }
 {
@@ -257,7 +258,7 @@ fn count_one_note<N: NativeSource>(alloc: Global, natives: Vec<N>) -> Result<Vec
     Ok(out.into_inner())
 }
 
-// A box of a native is a native: a host with natives of several types hands its boxes to a generic function.
+// A box of a native is a native: a host with natives of several types passes its boxes to a generic function.
 #[test]
 fn natives_in_boxes(rt: HostRuntime) -> Result<(), Fail> {
     let alloc = rt.alloc();

@@ -1,4 +1,4 @@
-//! A native for which the host answers: the run stops where it is due, and goes on when it was answered.
+//! A native that the host answers for: the run stops when it is due, and continues once it is answered.
 
 ghost use Rattle.std.specs.Prelude.{◌≡◌, IfOk, None, false};
 

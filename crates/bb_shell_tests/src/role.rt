@@ -1,9 +1,9 @@
-//! What a native of the tests asks for. `asking` has the native; definitions name this, so it is not for tests only.
+//! The roles of the natives in asking.rt. Definitions name them, so they are built without tests too.
 
 /// What an asker asks for.
 #[derive(Clone, Copy, Debug, PartialEq, Eq)]
 pub enum Role {
-    /// One ask for each reason to refuse one, and then two that are applied.
+    /// One ask for each reason to refuse an ask, and then two that are applied.
     EachRefusal,
     /// The asker asks to delete its unit, and then to set a slot of it.
     DeletesFirst,

@@ -1,4 +1,4 @@
-//! Whether two schemas are the same, which no input shows.
+//! Tests whether two schemas are the same, which no input shows.
 
 use bb_schema::{Schema, SchemaFault};
 use std::alloc::Global;

@@ -1,4 +1,4 @@
-//! A shell that a host makes of a blackboard and sources, and runs.
+//! A shell that a host makes from a blackboard and sources, and runs.
 
 ghost use Rattle.std.specs.Prelude.{◌≡◌, All, IfOk};
 ghost use Rattle.bb_bundle.specs.declared.draft.ActDraft.TheVariants.{Do as Does};

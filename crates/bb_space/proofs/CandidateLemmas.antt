@@ -8,9 +8,9 @@ use Rattle.std.specs.BTreeMap.{is_at as meets}
 use Rattle.std.specs.FinMap as fin
 use Rattle.std.proofs.lemmas.List.Kept.{IsStrictlySortedBy-filter}
 use Rattle.bb_pattern.specs.declared.value.DimValue.{DimValue}
-use Rattle.bb_space_index.specs.declared.leaf.Leaf.{Leaf}
-use Rattle.bb_space_index.specs.Candidates.{may_pass, dim_of}
-use Rattle.bb_space_index.proofs.Laws.{passing}
+use Rattle.bb_space.specs.declared.index.leaf.Leaf.{Leaf}
+use Rattle.bb_space.specs.index.Candidates.{may_pass, dim_of}
+use Rattle.bb_space.proofs.index_lemmas.Laws.{passing}
 use Rattle.bb_space.specs.Spaces.{Membership, AreChosen}
 use Rattle.bb_space.specs.Candidates.{is_candidate, candidates_of}
 use Rattle.bb_space.proofs.RisingLemmas.{keys_rise, same_numbers, any_filter, second_only}

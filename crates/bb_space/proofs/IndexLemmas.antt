@@ -5,14 +5,14 @@ use Rattle.std.specs.Ordering.{nat_cmp}
 use Rattle.std.specs.FinMap as fin
 use Rattle.std.proofs.lemmas.List.Kept.{IsStrictlySortedBy-filter}
 use Rattle.bb_pattern.specs.declared.value.DimValue.{DimValue}
-use Rattle.bb_space_index.specs.declared.leaf.Leaf.{Leaf}
-use Rattle.bb_space_index.specs.declared.place.Place.{Place}
-use Rattle.bb_space_index.specs.Places.{has}
-use Rattle.bb_space_index.specs.Leaf.{fits_leaf}
-use Rattle.bb_space_index.specs.Stretches.{is_near, IsCount}
-use Rattle.bb_space_index.specs.Pairs.{AreAllNear}
-use Rattle.bb_space_index.specs.Marks.{LeavesAllNear}
-use Rattle.bb_space_index.proofs.Laws.{AreOf, by_bool, near_is, passes_near, near_kept, near_all, count_is}
+use Rattle.bb_space.specs.declared.index.leaf.Leaf.{Leaf}
+use Rattle.bb_space.specs.declared.index.place.Place.{Place}
+use Rattle.bb_space.specs.index.Places.{has}
+use Rattle.bb_space.specs.index.Leaf.{fits_leaf}
+use Rattle.bb_space.specs.index.Stretches.{is_near, IsCount}
+use Rattle.bb_space.specs.index.Pairs.{AreAllNear}
+use Rattle.bb_space.specs.index.Marks.{LeavesAllNear}
+use Rattle.bb_space.proofs.index_lemmas.Laws.{AreOf, by_bool, near_is, passes_near, near_kept, near_all, count_is}
 use Rattle.bb_space.specs.declared.members.Members.{Members}
 use Rattle.bb_space.specs.Candidates.{is_candidate}
 use Rattle.bb_space.specs.Passing.{passes, passes_one, HaveAllPassing}

@@ -8,8 +8,8 @@ use Rattle.std.specs.BTreeMap.{BTreeMap, is_at, get}
 use Rattle.std.specs.BTreeMap.Range.{IsRangeOf}
 use Rattle.std.specs.declared.ops.Bound.{Bound}
 use Rattle.bb_pattern.specs.declared.value.DimValue.{DimValue}
-use Rattle.bb_space_index.specs.declared.leaf.Leaf.{Leaf}
-use Rattle.bb_space_index.specs.Leaf.{fit_each}
+use Rattle.bb_space.specs.declared.index.leaf.Leaf.{Leaf}
+use Rattle.bb_space.specs.index.Leaf.{fit_each}
 use Rattle.bb_space.specs.Passing.{passes}
 use Rattle.bb_space.specs.Spaces.{Membership}
 use Rattle.bb_space.specs.proving.Entries.{members_of_entries}

@@ -9,3 +9,4 @@ pub mod IndexLemmas
 pub mod Laws
 pub mod StandingLemmas
 pub mod LeavingLemmas
+pub mod index_lemmas

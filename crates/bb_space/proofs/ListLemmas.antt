@@ -8,7 +8,7 @@ use Rattle.bb_space.specs.declared.members.Members.{Members}
 use Rattle.bb_space.specs.Spaces.{Membership, Spaces, changed, left, membership as membership_in}
 use Rattle.bb_space.specs.proving.Indexed.{membership, seen, IsIndexed, AreIndexed}
 use Rattle.bb_space.proofs.ChangeLemmas.{one_blank}
-use Rattle.bb_space_index.proofs.Laws.{by_number}
+use Rattle.bb_space.proofs.index_lemmas.Laws.{by_number}
 
 module _ {X : Type 0} where
   pub get_set_here : (xs : List X) (i : ℕ) (x : X) → i < length xs → slice_get (set xs i x) i ≡ Some x

@@ -10,13 +10,13 @@ use Rattle.std.proofs.lemmas.Map.Lookups.{exact_unsigned}
 use Rattle.bb_basis.proofs.NumberLemmas.{nat_cmp_itself}
 use Rattle.bb_pattern.specs.declared.value.DimValue.{DimValue}
 use Rattle.bb_space.specs.declared.members.Members.{Members}
-use Rattle.bb_space_index.specs.declared.place.Place.{Place}
+use Rattle.bb_space.specs.declared.index.place.Place.{Place}
 use Rattle.bb_space.specs.Spaces.{Membership, left, moved}
-use Rattle.bb_space_index.specs.Places.{place_cmp, is_at, is_place_of, has, ArePut, AreIn, AreTaken}
+use Rattle.bb_space.specs.index.Places.{place_cmp, is_at, is_place_of, has, ArePut, AreIn, AreTaken}
 use Rattle.bb_space.specs.proving.Indexed.{membership, is_told, IsLoose, IsIndexed}
 use Rattle.bb_space.specs.proving.Entries.{members_of_entries}
 use Rattle.bb_basis.proofs.EntryLemmas.{get_is_lookup}
-use Rattle.bb_space_index.proofs.Laws.{equal, by_bool, by_number, of_unit, at_of, place_from, none_at}
+use Rattle.bb_space.proofs.index_lemmas.Laws.{equal, by_bool, by_number, of_unit, at_of, place_from, none_at}
 
 by_unit : (p : Place) (unit : ℕ) (G : Type 0) → (p.unit ≡ unit → G) → ((p.unit ≡ unit → ⊥) → G) → G
 by_unit p unit G same other = by_number p.unit unit G same other

@@ -1,8 +1,8 @@
--- What holds of all spaces at any time.
+-- The invariant of the spaces.
 use Rattle.std.specs.Prelude.{ℕ}
 use Rattle.std.specs.List.Sorted.{IsStrictlyIncreasing}
 use Rattle.bb_space.specs.Spaces.{Spaces, members}
 
--- the members of each space rise, so that none occurs twice
+-- the members of every space are strictly ascending, so none occurs twice
 abbrev pub Fits : Spaces → Type 0
 Fits s = (space : ℕ) → IsStrictlyIncreasing (members s space)

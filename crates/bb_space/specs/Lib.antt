@@ -1,10 +1,12 @@
--- the spaces, and each change of them
+-- the spaces, and every change of them
 pub mod Spaces
--- which members are candidates for a test
+-- the members that are candidates for a test
 pub mod Candidates
--- which units pass several tests
+-- the units that pass several tests
 pub mod Passing
--- what holds of all spaces at any time
+-- the invariant of the spaces
 pub mod Fits
--- what only models and the contracts of private functions speak of
+-- definitions that only models and the contracts of private functions use
 pub mod proving
+-- the index of a space: the set of the keys of its values, and the ranges in which values can pass a test
+pub mod index

@@ -1,12 +1,13 @@
-//! The spaces of a blackboard: which units are in each, and which values they have on its dimensions.
+//! The spaces of a blackboard: which units are in each, and their values on its dimensions.
 //!
-//! - In: units that enter, leave and are given other values.
-//! - Out: `Spaces`, which answers the members of a space and the candidates for a test.
-//! - Callers rely on: no unit whose values pass a test is missing from the candidates for it.
-//! - Family: bb_space_index has the ordered keys.
+//! - In: units that enter, leave and get other values.
+//! - Out: `Spaces`, which returns the members of a space and the candidates for a test. `index` has the ordered keys of
+//!   the values of a space, by which candidates are found, and `costs.rt` the limits by which `find` chooses.
+//! - Callers rely on: the candidates for a test include every member whose values pass it.
 //! - Cases: `spaces`, `spaces_and_queries`, `model-spaces`.
 #![tactic(auto)]
 
+pub mod index;
 mod members;
 mod moving;
 mod passing;
@@ -14,5 +15,5 @@ mod spaces;
 mod standing;
 
 pub use bb_schema::{SpaceId, UnitId};
-pub use bb_space_index::Leaf;
+pub use index::Leaf;
 pub use spaces::Spaces;

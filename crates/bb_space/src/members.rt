@@ -1,4 +1,4 @@
-//! The members of one space. spaces.rt keeps them for each space.
+//! The members of one space. `spaces.rt` keeps one `Members` for each space.
 
 ghost use Rattle.std.specs.Prelude.{◌≡◌, [], IfOk, IfSome, OnOk, OnErr, not, option_map, filter, length};
 ghost use Rattle.std.specs.Option.{unwrap_or};
@@ -7,29 +7,29 @@ ghost use Rattle.bb_space.specs.Spaces.{entered, left, moved};
 ghost use Rattle.bb_space.specs.Candidates.{candidates_of};
 ghost use Rattle.bb_space.specs.Passing.{passes, passes_one, HaveAllPassing};
 ghost use Rattle.bb_space.specs.proving.Entries.{members_of_entries};
-ghost use Rattle.bb_space_index.specs.Places.{ArePut, AreIn, AreTaken};
+ghost use Rattle.bb_space.specs.index.Places.{ArePut, AreIn, AreTaken};
 ghost use Rattle.bb_space.specs.proving.Indexed.{membership, IsIndexed};
 
+use crate::index::{
+    CLOSE_NUMBERS, FEW_UNITS, Leaf, MARKED_NUMBERS, Place, collect_near, count_passing, few_by_two,
+    is_few, put_all, rise, take_all, thin_all,
+};
 use crate::passing::{passing, room};
 use bb_basis::{Items, Memory};
 use bb_pattern::DimValue;
 use bb_schema::UnitId;
-use bb_space_index::{
-    CLOSE_NUMBERS, FEW_UNITS, Leaf, MARKED_NUMBERS, Place, collect_near, count_passing, few_by_two,
-    is_few, put_all, rise, take_all, thin_all,
-};
 use std::alloc::{AllocError, Global};
 use std::collections::{BTreeMap, BTreeSet};
 use std::mem;
 
-/// The members of a space, each with its values on the dimensions, in their order, and where each value stands.
+/// The members of a space, each with its values on the dimensions in order, and the place of each value in the index.
 #[derive(Drop)]
 pub(crate) struct Members {
     values: BTreeMap<UnitId, Items<DimValue>>,
     places: BTreeSet<Place>,
 }
 
-// Swaps the values of a member with others. A unit that is none stays out.
+// Swaps the values of a member with others, or does nothing if the unit is not a member.
 fn exchange(values: &mut BTreeMap<UnitId, Items<DimValue>>, unit: UnitId, new: &mut Items<DimValue>)
     ensures moved { members_of_entries values.new.entries
         ≡ moved unit new.old (members_of_entries values.old.entries) }
@@ -41,7 +41,7 @@ fn exchange(values: &mut BTreeMap<UnitId, Items<DimValue>>, unit: UnitId, new: &
     }
 }
 
-// The keys, rising.
+// The keys, ascending.
 fn keys_of(alloc: Global, values: &BTreeMap<UnitId, Items<DimValue>>) -> Result<Vec<UnitId>, Memory>
     ensures { IfOk result (λ list. list.items ≡ map.keys (members_of_entries values.now.entries)) }
 {
@@ -59,7 +59,7 @@ fn count(values: &BTreeMap<UnitId, Items<DimValue>>) -> usize
     values.len()
 }
 
-// The number of marks for some units, or 0 where the units are few, lie close together, or would need too many.
+// The number of marks for some units, or 0 if the units are few or close together, or would need too many.
 fn room_for_marks(among: &[UnitId]) -> usize {
     if among.len() < FEW_UNITS || room(among, CLOSE_NUMBERS) > 0 {
         return 0;
@@ -68,7 +68,7 @@ fn room_for_marks(among: &[UnitId]) -> usize {
 }
 
 impl Members {
-    /// No members. It allocates nothing.
+    /// Creates the members of a space: none, without allocating.
     pub(crate) fn new(alloc: Global) -> Members
         ensures none { membership result ≡ map.empty }
         ensures indexed { IsIndexed result }
@@ -79,14 +79,14 @@ impl Members {
         }
     }
 
-    /// Whether a unit is a member.
+    /// Returns whether a unit is a member.
     pub(crate) fn contains(&self, unit: UnitId) -> bool
         ensures { result ≡ map.contains_key (membership self.now) unit }
     {
         self.values.contains_key(&unit)
     }
 
-    /// The values of a member.
+    /// Returns the values of a member.
     pub(crate) fn values(&self, unit: UnitId) -> Option<&[DimValue]>
         ensures { option_map (λ v. v.now) result ≡ map.get (membership self.now) unit }
     {
@@ -96,8 +96,8 @@ impl Members {
         }
     }
 
-    /// Puts the places of values that a unit is to have, except those of values that it has. An error may leave some of
-    /// them.
+    /// Adds the places of values that a unit is about to get, except places of its present values. An error may leave
+    /// some of the new places in the index.
     pub(crate) fn prepare(&mut self, unit: UnitId, values: &[DimValue]) -> Result<(), Memory>
         ensures same { self.new.values ≡ self.old.values }
         ensures put { ArePut unit values.now self.old.places self.new.places }
@@ -110,7 +110,8 @@ impl Members {
         }
     }
 
-    /// Swaps the values of a member with others, whose places are there. A unit that is none stays out.
+    /// Swaps the values of a member with others whose places are in the index, or does nothing if the unit is not a
+    /// member.
     pub(crate) fn exchange(&mut self, unit: UnitId, values: &mut Items<DimValue>)
         ensures same { self.new.places ≡ self.old.places }
         ensures moved { membership self.new ≡ moved unit values.old (membership self.old) }
@@ -119,7 +120,7 @@ impl Members {
         exchange(&mut self.values, unit, values);
     }
 
-    /// Takes the places of values that a unit does not have.
+    /// Removes the places of values, except places of the unit's present values.
     pub(crate) fn settle(&mut self, unit: UnitId, values: &[DimValue])
         ensures same { self.new.values ≡ self.old.values }
         ensures taken { AreTaken unit values.now (unwrap_or (map.get (membership self.old) unit) [])
@@ -131,8 +132,8 @@ impl Members {
         }
     }
 
-    /// Makes a unit a member with these values, and says whether it was none. A member stays as it is. An error changes
-    /// nothing.
+    /// Adds a unit with these values, and returns whether it was not a member. A member stays unchanged. An error
+    /// changes nothing.
     pub(crate) fn enter(&mut self, unit: UnitId, values: Items<DimValue>) -> Result<bool, Memory>
         requires { IsIndexed self.old }
         ensures new { IfOk result (λ new. new ≡ not (map.contains_key (membership self.old) unit)) }
@@ -157,7 +158,7 @@ impl Members {
         }
     }
 
-    /// Takes a unit out, and says whether it was a member.
+    /// Removes a unit, and returns whether it was a member.
     pub(crate) fn leave(&mut self, unit: UnitId) -> bool
         requires { IsIndexed self.old }
         ensures was { result ≡ map.contains_key (membership self.old) unit }
@@ -173,7 +174,7 @@ impl Members {
         }
     }
 
-    /// Gives a member other values. A unit that is none stays out. An error changes nothing.
+    /// Gives a member other values. Does nothing if the unit is not a member. An error changes nothing.
     pub(crate) fn moved(&mut self, unit: UnitId, values: Items<DimValue>) -> Result<(), Memory>
         requires { IsIndexed self.old }
         ensures moved { OnOk result (membership self.new ≡ moved unit values (membership self.old)) }
@@ -190,28 +191,28 @@ impl Members {
         Ok(())
     }
 
-    /// The number of members.
+    /// Returns the number of members.
     pub(crate) fn count(&self) -> usize
         ensures { result ≡ map.len (membership self.now) }
     {
         count(&self.values)
     }
 
-    /// The members with their values.
+    /// Returns the members with their values.
     pub(crate) fn told(&self) -> &BTreeMap<UnitId, Items<DimValue>>
         ensures { members_of_entries result.now.entries ≡ membership self.now }
     {
         &self.values
     }
 
-    /// The members, rising.
+    /// Returns the members, ascending.
     pub(crate) fn list(&self, alloc: Global) -> Result<Vec<UnitId>, Memory>
         ensures { IfOk result (λ list. list.items ≡ map.keys (membership self.now)) }
     {
         keys_of(alloc, &self.values)
     }
 
-    /// The members whose value can pass a test, rising.
+    /// Returns the members whose value can pass a test, ascending.
     pub(crate) fn candidates(&self, alloc: Global, leaf: &Leaf) -> Result<Vec<UnitId>, Memory>
         requires { IsIndexed self.now }
         ensures { IfOk result (λ list. list.items ≡ candidates_of (membership self.now) leaf.now) }
@@ -222,7 +223,8 @@ impl Members {
         Ok(found)
     }
 
-    /// The members whose value can pass a test, rising, or `None` where more than `most` values can pass.
+    /// Returns the members whose value can pass a test, ascending, or `None` if more than `most` intervals or labels
+    /// can.
     pub(crate) fn few(
         &self,
         alloc: Global,
@@ -239,7 +241,7 @@ impl Members {
         Ok(Some(self.candidates(alloc, leaf)?))
     }
 
-    /// The number of members whose values pass a test, where the index tells it.
+    /// Returns the number of members whose values pass a test, if the index determines it.
     pub(crate) fn count_passing(&self, leaf: &Leaf) -> Option<usize>
         requires { IsIndexed self.now }
         ensures { IfSome result (λ n.
@@ -248,8 +250,8 @@ impl Members {
         count_passing(&self.places, leaf)
     }
 
-    /// Members, rising, among them all whose values pass each of some tests: by two tests of neighbouring dimensions.
-    /// `None` where there are no such two, or more than `most` values can pass both.
+    /// Returns members, ascending, including all whose values pass all of some tests, by two tests of neighbouring
+    /// dimensions. `None` if there are no such two, or more than `most` values can pass both.
     pub(crate) fn few_passing(
         &self,
         alloc: Global,
@@ -263,7 +265,7 @@ impl Members {
         few_by_two(alloc, &self.places, tests, most)
     }
 
-    /// The units of a list that are members whose values pass each of some tests, in their order.
+    /// Returns the units of a list that are members and whose values pass all of some tests, in the order of the list.
     pub(crate) fn passing(
         &self,
         alloc: Global,

@@ -1,6 +1,6 @@
-//! How the values of a unit change in spaces: in all that are told, or, where memory is refused, in none. First the new
-//! places are put, which may fail; then the values are exchanged and the old places taken, which can't fail. spaces.rt
-//! calls it.
+//! Changes of a unit's values in spaces: in all given spaces or, if memory runs out, in none. The new places are added
+//! first, which may fail. Then the values are swapped and the old places removed, which can't fail. `spaces.rt` calls
+//! it.
 
 ghost use Rattle.std.specs.Prelude.{◌≡◌, ◌<◌, OnOk, OnErr, length};
 ghost use Rattle.bb_space.specs.Spaces.{after_moved, after_moves};
@@ -12,7 +12,7 @@ use bb_pattern::DimValue;
 use bb_schema::{SpaceId, UnitId};
 use std::alloc::AllocError;
 
-// Puts the places of moves. An error may leave some of them.
+// Adds the places of moves. An error may leave some of them in the index.
 fn prepare_all(
     spaces: &mut Vec<Members>,
     unit: UnitId,
@@ -33,7 +33,7 @@ fn prepare_all(
     Ok(())
 }
 
-// Swaps the values of a unit with those of moves, whose places are there.
+// Swaps the values of a unit with the values of moves, whose places are in the index.
 fn exchange_all(
     spaces: &mut Vec<Members>,
     unit: UnitId,
@@ -53,7 +53,7 @@ fn exchange_all(
     }
 }
 
-// Takes the places of moves where the unit has no such values.
+// Removes the places of moves, except places of the unit's present values.
 fn settle_all(spaces: &mut Vec<Members>, unit: UnitId, moves: &[(SpaceId, Items<DimValue>)])
     requires { AreLoose unit moves.now spaces.old.items }
     ensures same { seen spaces.new.items ≡ seen spaces.old.items }
@@ -84,7 +84,7 @@ pub(crate) fn move_one(
     spaces[space as usize].moved(unit, values)
 }
 
-/// Gives a unit other values in some spaces. An error changes nothing.
+/// Gives a unit other values in some spaces, if it is a member there. An error changes nothing.
 pub(crate) fn move_all(
     spaces: &mut Vec<Members>,
     unit: UnitId,

@@ -1,20 +1,20 @@
-//! Which of some units pass some tests. Where they lie close together, all members between the first and the last are
-//! looked at in their order, which is quicker than a search for each. members.rt asks for them.
+//! Selects the units that pass some tests. If the units are close together, all members from the first to the last are
+//! tested in order, which is faster than a look-up for each. `members.rt` calls it.
 
 ghost use Rattle.std.specs.Prelude.{◌≡◌, ◌+◌, ◌-◌, ◌⊎◌, ℕ, Bool, List, Some, IfOk, filter, slice_get};
-ghost use Rattle.bb_space_index.specs.Leaf.{fit_each};
+ghost use Rattle.bb_space.specs.index.Leaf.{fit_each};
 ghost use Rattle.bb_space.specs.Passing.{passes};
 ghost use Rattle.bb_space.specs.proving.Entries.{members_of_entries};
 ghost use Rattle.bb_space.specs.proving.Known.{AreKnown};
 
+use crate::index::{CLOSE_NUMBERS, Leaf};
 use bb_basis::{Items, Memory};
 use bb_pattern::DimValue;
 use bb_schema::UnitId;
-use bb_space_index::{CLOSE_NUMBERS, Leaf};
 use std::alloc::Global;
 use std::collections::BTreeMap;
 
-// Whether values pass each of some tests.
+// Whether values pass all of some tests.
 fn fit_each(tests: &[Leaf], values: &[DimValue]) -> bool
     ensures { result ≡ fit_each tests.now values.now }
 {
@@ -26,7 +26,7 @@ fn fit_each(tests: &[Leaf], values: &[DimValue]) -> bool
     true
 }
 
-// Whether a unit is a member whose values pass each of some tests.
+// Whether a unit is a member and its values pass all of some tests.
 fn passes(values: &BTreeMap<UnitId, Items<DimValue>>, tests: &[Leaf], unit: UnitId) -> bool
     ensures { result ≡ passes (members_of_entries values.now.entries) tests.now unit }
 {
@@ -36,7 +36,7 @@ fn passes(values: &BTreeMap<UnitId, Items<DimValue>>, tests: &[Leaf], unit: Unit
     }
 }
 
-// Notes whether a unit passes, if the table, which begins with `first`, has a place for the unit.
+// Records whether a unit passes, if the table, which begins with `first`, has an entry for the unit.
 fn note(table: &mut Vec<Option<bool>>, first: UnitId, unit: UnitId, passes: bool)
     ensures { (k : ℕ) (b : Bool) → slice_get table.new.items k ≡ Some (Some b)
         → (slice_get table.old.items k ≡ Some (Some b)) ⊎ ((first + k ≡ unit) × (passes ≡ b)) }
@@ -50,7 +50,7 @@ fn note(table: &mut Vec<Option<bool>>, first: UnitId, unit: UnitId, passes: bool
     }
 }
 
-// Notes of the members from `first` to before `end` whether they pass.
+// Records for the members from `first` up to `end`, excluded, whether they pass.
 fn look(
     values: &BTreeMap<UnitId, Items<DimValue>>,
     tests: &[Leaf],
@@ -69,7 +69,7 @@ fn look(
     }
 }
 
-// What is noted of a unit.
+// The recorded result for a unit, if there is one.
 fn noted(table: &[Option<bool>], first: UnitId, unit: UnitId) -> Option<bool>
     ensures { (b : Bool) → result ≡ Some b
         → (first + (unit - first) ≡ unit) × (slice_get table.now (unit - first) ≡ Some (Some b)) }
@@ -78,7 +78,7 @@ fn noted(table: &[Option<bool>], first: UnitId, unit: UnitId) -> Option<bool>
     *table.get(at as usize)?
 }
 
-// Whether a unit passes, by what is noted, or by a search where nothing is.
+// Whether a unit passes: the recorded result, or else a look-up.
 fn passes_by(
     values: &BTreeMap<UnitId, Items<DimValue>>,
     tests: &[Leaf],
@@ -95,8 +95,8 @@ fn passes_by(
     }
 }
 
-/// How many units there are from the first to the last of some that rise, or 0 where that is more than `most` for each
-/// of them.
+/// Returns the count of numbers from the first to the last of some ascending units, or 0 if that is more than `most`
+/// for each of the units.
 pub(crate) fn room(among: &[UnitId], most: u64) -> usize {
     let (Some(first), Some(last)) = (among.first(), among.last()) else {
         return 0;
@@ -109,7 +109,7 @@ pub(crate) fn room(among: &[UnitId], most: u64) -> usize {
     }
 }
 
-// Notes of `room` units, from `first` on, whether they pass.
+// Records for the `room` numbers from `first` on whether the members among them pass.
 fn noted_all(
     alloc: Global,
     values: &BTreeMap<UnitId, Items<DimValue>>,
@@ -127,7 +127,7 @@ fn noted_all(
     Ok(table)
 }
 
-/// The units of a list that are members whose values pass each of some tests, in their order.
+/// Returns the units of a list that are members and whose values pass all of some tests, in the order of the list.
 pub(crate) fn passing(
     alloc: Global,
     values: &BTreeMap<UnitId, Items<DimValue>>,

@@ -11,19 +11,19 @@ ghost use Rattle.bb_space.specs.Spaces.{after_enter, after_leave, after_moved, a
 ghost use Rattle.bb_space.specs.proving.Indexed.{seen, AreIndexed};
 ghost use Rattle.bb_space.specs.proving.Standing.{AreStanding};
 
+use crate::index::Leaf;
 use crate::members::Members;
 use crate::moving::{move_all, move_one};
 use crate::standing::Standing;
 use bb_basis::{Items, Memory};
 use bb_pattern::DimValue;
 use bb_schema::{Schema, SpaceId, UnitId};
-use bb_space_index::Leaf;
 use std::alloc::Global;
 use std::collections::BTreeMap;
 use std::marker::Model;
 
-/// The spaces of a blackboard: which units are in each, with the values on its dimensions that were told of them, one
-/// for each dimension in order (GBBopen Reference Manual, space instances).
+/// The spaces of a blackboard: the units in each, with the values last given for them, one for each dimension in order
+/// (GBBopen Reference Manual, space instances).
 #[derive(Drop)]
 pub struct Spaces {
     alloc: Global,
@@ -46,7 +46,7 @@ impl Model for Spaces {
     ghost invariant = { λ s. AreIndexed s.spaces.items × AreStanding (seen s.spaces.items) s.standing };
 }
 
-// Makes a unit a member of a space.
+// Adds a unit to a space.
 fn enter(
     spaces: &mut Vec<Members>,
     space: SpaceId,
@@ -63,7 +63,7 @@ fn enter(
     spaces[space as usize].enter(unit, values)
 }
 
-// Takes a unit out of a space.
+// Removes a unit from a space.
 fn leave(spaces: &mut Vec<Members>, space: SpaceId, unit: UnitId) -> bool
     requires indexed { AreIndexed spaces.old.items }
     requires space { space < length spaces.old.items }
@@ -74,7 +74,7 @@ fn leave(spaces: &mut Vec<Members>, space: SpaceId, unit: UnitId) -> bool
     spaces[space as usize].leave(unit)
 }
 
-// Makes a unit a member of a space, and puts that among its spaces.
+// Adds a unit to a space, and the space to the unit's list.
 fn enter_new(
     spaces: &mut Vec<Members>,
     standing: &mut Standing,
@@ -104,7 +104,7 @@ fn enter_new(
     }
 }
 
-// Takes a unit out of some spaces: all that it is in.
+// Removes a unit from the listed spaces, which are all that it is in.
 fn leave_each(spaces: &mut Vec<Members>, unit: UnitId, list: &[SpaceId])
     requires indexed { AreIndexed spaces.old.items }
     requires all { list.now ≡ spaces_of (seen spaces.old.items) unit }
@@ -121,7 +121,7 @@ fn leave_each(spaces: &mut Vec<Members>, unit: UnitId, list: &[SpaceId])
 }
 
 impl Spaces {
-    /// The spaces of a schema, without members.
+    /// Creates the spaces of a schema, without members.
     pub fn new(alloc: Global, schema: &Schema) -> Result<Spaces, Memory>
         ensures { IfOk result (λ spaces. spaces ≡ no_spaces schema.now) }
     {
@@ -136,14 +136,14 @@ impl Spaces {
         })
     }
 
-    /// The number of spaces.
+    /// Returns the number of spaces.
     pub fn count(&self) -> usize
         ensures { result ≡ length self.now.spaces }
     {
         self.spaces.len()
     }
 
-    /// Makes a unit a member of a space, with these values, and says whether it was none. A member stays as it is. An
+    /// Adds a unit to a space with these values, and returns whether it was not a member. A member stays unchanged. An
     /// error changes nothing.
     pub fn enter(
         &mut self,
@@ -159,7 +159,7 @@ impl Spaces {
         enter_new(&mut self.spaces, &mut self.standing, space, unit, values)
     }
 
-    /// Takes a unit out of a space, and says whether it was a member.
+    /// Removes a unit from a space, and returns whether it was a member.
     pub fn leave(&mut self, space: SpaceId, unit: UnitId) -> bool
         requires { space < length self.old.spaces }
         ensures was { result ≡ is_member self.old space unit }
@@ -169,7 +169,7 @@ impl Spaces {
         leave(&mut self.spaces, space, unit)
     }
 
-    /// Gives a member of a space other values. A unit that is none stays out. An error changes nothing.
+    /// Gives a member of a space other values. Does nothing if the unit is not a member. An error changes nothing.
     pub fn moved(
         &mut self,
         space: SpaceId,
@@ -183,7 +183,7 @@ impl Spaces {
         move_one(&mut self.spaces, space, unit, values)
     }
 
-    /// Gives a unit other values in some spaces, one after another, where it is a member. An error changes nothing.
+    /// Gives a unit other values in some spaces, in order, if it is a member there. An error changes nothing.
     pub fn moved_all(
         &mut self,
         unit: UnitId,
@@ -195,7 +195,7 @@ impl Spaces {
         move_all(&mut self.spaces, unit, moves)
     }
 
-    /// Takes a unit out of all spaces.
+    /// Removes a unit from all spaces.
     pub fn forget(&mut self, unit: UnitId)
         ensures { self.new ≡ after_forget self.old unit }
     {
@@ -203,14 +203,14 @@ impl Spaces {
         leave_each(&mut self.spaces, unit, &list);
     }
 
-    /// The spaces that a unit is in, rising.
+    /// Returns the spaces that a unit is in, ascending.
     pub fn spaces_of(&self, unit: UnitId) -> &[SpaceId]
         ensures { result.now ≡ spaces_of self.now unit }
     {
         self.standing.of(unit)
     }
 
-    /// Whether a unit is in a space.
+    /// Returns whether a unit is in a space.
     pub fn contains(&self, space: SpaceId, unit: UnitId) -> bool
         requires { space < length self.now.spaces }
         ensures { result ≡ is_member self.now space unit }
@@ -218,7 +218,7 @@ impl Spaces {
         self.spaces[space as usize].contains(unit)
     }
 
-    /// The values that a member of a space has, as they were told last.
+    /// Returns the values last given for a member of a space, or `None` if the unit is not a member.
     pub fn values(&self, space: SpaceId, unit: UnitId) -> Option<&[DimValue]>
         requires { space < length self.now.spaces }
         ensures { option_map (λ v. v.now) result ≡ values_in self.now space unit }
@@ -226,7 +226,7 @@ impl Spaces {
         self.spaces[space as usize].values(unit)
     }
 
-    /// The number of members of a space.
+    /// Returns the number of members of a space.
     pub fn member_count(&self, space: SpaceId) -> usize
         requires { space < length self.now.spaces }
         ensures { result ≡ fin.len (membership self.now space) }
@@ -234,7 +234,7 @@ impl Spaces {
         self.spaces[space as usize].count()
     }
 
-    /// The members of a space with the values that they have, as they were told last, to be gone over in rising order.
+    /// Returns the members of a space with the values last given for them, to be visited in ascending order.
     pub fn told(&self, space: SpaceId) -> &BTreeMap<UnitId, Items<DimValue>>
         requires { space < length self.now.spaces }
         ensures { fin.from_entries result.now.entries ≡ membership self.now space }
@@ -242,7 +242,7 @@ impl Spaces {
         self.spaces[space as usize].told()
     }
 
-    /// The members of a space, rising.
+    /// Returns the members of a space, ascending.
     pub fn members(&self, space: SpaceId) -> Result<Vec<UnitId>, Memory>
         requires { space < length self.now.spaces }
         ensures { IfOk result (λ list. list.items ≡ members self.now space) }
@@ -250,8 +250,8 @@ impl Spaces {
         self.spaces[space as usize].list(self.alloc)
     }
 
-    /// The members of a space whose value can pass a test, as it was told: by the low end of an interval, or by the
-    /// label. They rise, and all that pass are among them.
+    /// Returns the members of a space whose value, as last given, can pass a test, judged by the low end of an interval
+    /// or by the label. They are ascending, and include all that pass.
     pub fn candidates(&self, space: SpaceId, leaf: &Leaf) -> Result<Vec<UnitId>, Memory>
         requires { space < length self.now.spaces }
         ensures chosen { IfOk result (λ list. AreCandidates self.now space leaf.now list.items) }
@@ -260,8 +260,9 @@ impl Spaces {
         self.spaces[space as usize].candidates(self.alloc, leaf)
     }
 
-    /// The candidates in a space for a test, or `None` where more than `most` values can pass it. It goes over no more
-    /// than `most` values.
+    /// Returns the candidates in a space for a test, or `None` if more than `most` intervals or labels can pass it.
+    /// Visits a number of these that is at most proportional to `most`, plus the reversed intervals (high end below the
+    /// low end) of the dimension, which are candidates but not counted.
     pub fn few(
         &self,
         space: SpaceId,
@@ -274,8 +275,8 @@ impl Spaces {
         self.spaces[space as usize].few(self.alloc, leaf, most)
     }
 
-    /// The number of members of a space whose values, as they were told last, pass a test: where the index tells it
-    /// without a look at each, as for a label or for more than a number. It goes over those that pass.
+    /// Returns the number of members of a space whose values, as last given, pass a test, if the index alone determines
+    /// it, as for a label, or for `More` if no interval is reversed. Visits only those that pass.
     pub fn count_passing(&self, space: SpaceId, leaf: &Leaf) -> Option<usize>
         requires { space < length self.now.spaces }
         ensures { IfSome result (λ n.
@@ -284,10 +285,10 @@ impl Spaces {
         self.spaces[space as usize].count_passing(leaf)
     }
 
-    /// Members of a space, rising, among them all whose values, as they were told last, pass each of some tests: by two
-    /// tests of neighbouring dimensions, of which the first asks for one low end or one label. After the last dimension
-    /// comes the first. `None` where there are no such two, or more than `most` values can pass both. It goes over no
-    /// more than `most` values.
+    /// Returns members of a space, ascending, including all whose values, as last given, pass all of some tests. Uses
+    /// two tests of neighbouring dimensions, the first of which asks for one low end or one label; the first dimension
+    /// follows the last. `None` if there are no such two, or more than `most` values can pass both. Visits a number of
+    /// these that is at most proportional to `most` for each such two, plus reversed intervals, which are not counted.
     pub fn few_passing(
         &self,
         space: SpaceId,
@@ -301,8 +302,8 @@ impl Spaces {
         self.spaces[space as usize].few_passing(self.alloc, tests, most)
     }
 
-    /// The units of a list that are members of a space whose values, as they were told last, pass each of some tests,
-    /// in their order. It is quicker where the units rise: then few of them are looked up one by one.
+    /// Returns the units of a list that are members of a space and whose values, as last given, pass all of some tests,
+    /// in the order of the list. It is faster if the units are ascending: then few of them need a look-up each.
     pub fn passing(
         &self,
         space: SpaceId,
@@ -316,7 +317,7 @@ impl Spaces {
         self.spaces[space as usize].passing(self.alloc, tests, among)
     }
 
-    /// Does nothing, and says what holds of the spaces at any time: the members of each rise.
+    /// Does nothing, but states what always holds of the spaces: the members of each are strictly ascending.
     pub fn fits(&self)
         ensures { Fits self.now }
     {

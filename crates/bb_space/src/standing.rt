@@ -1,5 +1,5 @@
-//! The spaces that each unit is in. spaces.rt keeps them in step with the members, so that no call asks all spaces for
-//! one unit.
+//! The spaces that each unit is in. `spaces.rt` keeps them consistent with the members, so that no call searches all
+//! spaces for one unit.
 
 ghost use Rattle.std.specs.Prelude.{◌≡◌, ℕ, [], nat_lt, position, OnOk, OnErr, IsSome};
 ghost use Rattle.std.specs.Ordering.{nat_cmp};
@@ -11,28 +11,28 @@ use bb_schema::{SpaceId, UnitId};
 use std::alloc::{AllocError, Global};
 use std::collections::BTreeMap;
 
-/// For each unit the spaces that it is in, rising.
+/// By unit, the spaces that it is in, ascending.
 #[derive(Drop)]
 pub(crate) struct Standing {
     alloc: Global,
     lists: BTreeMap<UnitId, Vec<SpaceId>>,
 }
 
-// The first place of a greater number.
+// The index of the first larger number.
 fn first_above(list: &[SpaceId], space: SpaceId) -> Option<usize>
     ensures { result ≡ position (λ other. nat_lt space other) list.now }
 {
     list.iter().position(|other| space < *other)
 }
 
-// Where a space belongs among others that rise.
+// The index at which a space belongs in an ascending list.
 fn rank(list: &[SpaceId], space: SpaceId) -> usize
     ensures { result ≡ rank space list.now }
 {
     first_above(list, space).unwrap_or(list.len())
 }
 
-// Puts a space among those of a unit that has some.
+// Adds a space to a unit's list, which is not empty.
 fn put_at(
     lists: &mut BTreeMap<UnitId, Vec<SpaceId>>,
     unit: UnitId,
@@ -52,7 +52,7 @@ fn put_at(
     }
 }
 
-// Takes a space out of those of a unit.
+// Removes a space from a unit's list.
 fn remove_at(lists: &mut BTreeMap<UnitId, Vec<SpaceId>>, unit: UnitId, space: SpaceId)
     ensures { (n : ℕ) → listed lists.new n ≡ one_less lists.old unit space n }
 {
@@ -63,7 +63,7 @@ fn remove_at(lists: &mut BTreeMap<UnitId, Vec<SpaceId>>, unit: UnitId, space: Sp
 }
 
 impl Standing {
-    /// No unit is in a space. It allocates nothing.
+    /// Creates the lists, with no unit in a space and without allocating.
     pub(crate) fn new(alloc: Global) -> Standing
         ensures { (n : ℕ) → listed result.lists n ≡ [] }
     {
@@ -73,7 +73,7 @@ impl Standing {
         }
     }
 
-    /// The spaces of a unit, rising.
+    /// Returns the spaces of a unit, ascending.
     pub(crate) fn of(&self, unit: UnitId) -> &[SpaceId]
         ensures { result.now ≡ listed self.now.lists unit }
     {
@@ -83,7 +83,7 @@ impl Standing {
         }
     }
 
-    /// Puts a space among those of a unit. An error changes nothing.
+    /// Adds a space to a unit's list. An error changes nothing.
     pub(crate) fn put(&mut self, unit: UnitId, space: SpaceId) -> Result<(), Memory>
         ensures ok { OnOk result ((n : ℕ) → listed self.new.lists n ≡ one_more self.old.lists unit space n) }
         ensures err { OnErr result ((n : ℕ) → listed self.new.lists n ≡ listed self.old.lists n) }
@@ -97,14 +97,14 @@ impl Standing {
         Ok(())
     }
 
-    /// Takes a space out of those of a unit.
+    /// Removes a space from a unit's list.
     pub(crate) fn remove(&mut self, unit: UnitId, space: SpaceId)
         ensures { (n : ℕ) → listed self.new.lists n ≡ one_less self.old.lists unit space n }
     {
         remove_at(&mut self.lists, unit, space);
     }
 
-    /// Takes all spaces of a unit.
+    /// Removes and returns all spaces of a unit.
     pub(crate) fn take(&mut self, unit: UnitId) -> Vec<SpaceId>
         ensures list { result.items ≡ listed self.old.lists unit }
         ensures others { (n : ℕ) → listed self.new.lists n ≡ none_left self.old.lists unit n }

@@ -1,7 +1,7 @@
--- How a run of the definitions ends, or where it comes back to its host. The code's runs end in all of these ways but
--- the last (`End` of src/).
-use Rattle.bb_agenda.specs.Activation.{Activation}
-use Rattle.bb_machine_state.specs.declared.outcome.Stuck.{Stuck as Reason}
+-- How a run of the definitions ends, or why it returns to its host. Runs of the code end in all of these ways but the
+-- last (`End` of src/).
+use Rattle.bb_agenda.specs.declared.focusing.activation.Activation.{Activation}
+use Rattle.bb_machine.specs.declared.outcome.Stuck.{Stuck as Reason}
 
 pub data End : Type 0 where
   -- nothing can be chosen, and quiescence changed nothing
@@ -12,5 +12,5 @@ pub data End : Type 0 where
   Full : End
   -- this activation was chosen, and its source acts by a native that was not handed in
   Due : Activation → End
-  -- an activation could not go on
+  -- an execution was stuck
   Stuck : Reason → End

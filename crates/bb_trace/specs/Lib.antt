@@ -2,11 +2,11 @@
 pub mod End
 -- the text of a trace
 pub mod TraceText
--- what the writing of a page does
+-- what writing a page does
 pub mod Page
 -- for proofs only
 pub mod proving
--- of bb_board: the blackboard, what happens on it and what it notes, and the document of its first units
+-- of bb_board: the blackboard, its events and notes, and the document of its initial units
 pub use Rattle.bb_board.specs.Board
 pub use Rattle.bb_board.specs.World
 pub use Rattle.bb_board.specs.Events
@@ -18,7 +18,7 @@ pub use Rattle.bb_board.specs.Event
 pub use Rattle.bb_board.specs.Note as BoardNote
 pub use Rattle.bb_board.specs.Said
 pub use Rattle.bb_board.specs.Outlives
--- of bb_native: what a native means, sees and asks, what becomes of an ask, and what a roster of natives means
+-- of bb_native: what a native means, sees and asks, how asks are applied, and what a roster of natives means
 pub use Rattle.bb_native.specs.Native
 pub use Rattle.bb_native.specs.Roster
 pub use Rattle.bb_native.specs.Sight

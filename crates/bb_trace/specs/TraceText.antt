@@ -15,8 +15,8 @@ use Rattle.bb_board.specs.Note.{Note as BoardNote}
 use Rattle.bb_board.specs.Note.TheVariants.{Event as happened, Said as said}
 use Rattle.bb_board.specs.Said.{Said}
 use Rattle.bb_board.specs.Said.TheVariants as saids
-use Rattle.bb_agenda.specs.Activation.{Activation}
-use Rattle.bb_machine_state.specs.Reasons.{reason_number}
+use Rattle.bb_agenda.specs.declared.focusing.activation.Activation.{Activation}
+use Rattle.bb_machine.specs.Reasons.{reason_number}
 use Rattle.bb_native.specs.declared.closing.Closing.{Closing}
 use Rattle.bb_native.specs.Refusals.{refusal_number}
 use Rattle.bb_rules.specs.Parts.{Source}
@@ -28,11 +28,11 @@ use Rattle.bb_trace.specs.declared.note.Note.TheVariants.{Chosen, Invalid, Ended
 use Rattle.bb_trace.specs.declared.note.Note.TheVariants.{Posted, PostEnded}
 use Rattle.bb_run_plan.specs.Plan.{Plan}
 
--- the name of a class, empty where there is none
+-- the name of a class; empty if there is none
 abbrev pub class_name : Schema → ℕ → List ℕ
 class_name s c = unwrap_or (name_of_class s c) []
 
--- the name of the source at a place, empty where there is none
+-- the name of the source at a place; empty if there is none
 abbrev pub source_name : List Source → ℕ → List ℕ
 source_name sources place = unwrap_or (option_map (λ source. source.name) (slice_get sources place)) []
 
@@ -54,7 +54,7 @@ abbrev pub said_text : Schema → Said → List ℕ
 said_text s (saids.Value v) = value_text s v
 said_text s (saids.Unit n) = codes "#" ++ decimal n
 
--- the name of a slot, empty where there is none
+-- the name of a slot; empty if there is none
 abbrev pub slot_name : Schema → ℕ → List ℕ
 slot_name s slot = unwrap_or (name_of_slot s slot) []
 
@@ -62,7 +62,7 @@ slot_name s slot = unwrap_or (name_of_slot s slot) []
 abbrev pub slot_text : Schema → (unit slot : ℕ) → List ℕ
 slot_text s n slot = decimal n ++ codes "." ++ slot_name s slot
 
--- `U SPACE`: a unit and a space, whose name is empty where there is none
+-- `U SPACE`: a unit and a space, whose name is empty if there is none
 abbrev pub space_text : Schema → (unit space : ℕ) → List ℕ
 space_text s n space = decimal n ++ codes " " ++ unwrap_or (name_of_space s space) []
 
@@ -97,7 +97,7 @@ numbered_text sources a r =
 abbrev pub trigger_text : List Source → Activation → List ℕ
 trigger_text sources a = codes "trigger " ++ numbered_text sources a a.base
 
--- a trigger that made no activation
+-- a trigger that the source declined
 abbrev pub decline_text : List Source → (source unit : ℕ) → List ℕ
 decline_text sources source unit = codes "decline " ++ source_name sources source ++ codes " unit " ++ decimal unit
 
@@ -110,7 +110,7 @@ abbrev pub ended_text : (steps found budget : ℕ) → List ℕ
 ended_text steps found budget =
     codes "end steps " ++ decimal steps ++ codes " found " ++ decimal found ++ codes " budget " ++ decimal budget
 
--- an ask that was refused, and the number of the reason
+-- a refused ask, and the number of the reason
 abbrev pub refused_text : (ask number : ℕ) → List ℕ
 refused_text ask number = codes "refused ask " ++ decimal ask ++ codes " " ++ decimal number
 
@@ -122,11 +122,11 @@ native_ended_text asks = codes "end native " ++ decimal asks
 abbrev pub post_ended_text : (asks : ℕ) → List ℕ
 post_ended_text asks = codes "end post " ++ decimal asks
 
--- a native that was closed, and what it said
+-- a native that was closed, and what it returned
 abbrev pub closed_text : Closing → List ℕ
 closed_text c = codes "closed " ++ c.name ++ codes " " ++ signed_decimal c.number
 
--- the end of the run; no trace has the last two, since no run is stuck, and one with a native due is not ended
+-- the end of the run; no trace has the last two, because no run is stuck and a run with a native due does not end
 abbrev pub end_text : End → List ℕ
 end_text ends.Quiescence = codes "finish quiescence"
 end_text ends.Limit = codes "finish limit"
@@ -134,7 +134,7 @@ end_text ends.Full = codes "finish full"
 end_text (ends.Due a) = codes "finish due " ++ decimal a.number
 end_text (ends.Stuck reason) = codes "finish stuck " ++ decimal (reason_number reason)
 
--- what a note says
+-- the text of a note
 abbrev pub note_text : Plan → Note → List ℕ
 note_text plan (Board note) = board_note_text plan.schema note
 note_text plan (Triggered a) = trigger_text plan.sources a

@@ -1,10 +1,10 @@
-//! How a run ends that is not cut short, or where it comes back to its host. The run notes its end last, and line.rt
-//! makes a line of it.
+//! How a run ends unless it is cut short, or why it returns to its host. The run notes its end last, and line.rt makes
+//! a line of it.
 
 use bb_agenda::Activation;
 use std::marker::Model;
 
-/// How a run ends that is not cut short.
+/// How a run ends unless it is cut short.
 #[derive(Clone, Copy, Debug, PartialEq, Eq)]
 pub enum EndKind {
     /// Nothing can be chosen, and quiescence changed nothing.
@@ -14,12 +14,12 @@ pub enum EndKind {
     /// The blackboard or the agenda is full.
     Full,
     /// This activation was chosen, and its source acts by a native that was not handed in: it is due, and the host that
-    /// holds the run can answer for it. No whole run ends so.
+    /// holds the run can answer for it. No whole run ends like this.
     Due(Activation),
 }
 
-/// The end of a run that is not cut short. Contracts see it among the ends that the definitions know: they have one
-/// more, that an activation could not go on.
+/// The end of a run that is not cut short. Contracts see it as an end of the definitions, which have another one: an
+/// execution was stuck.
 #[derive(Clone, Copy, Debug, PartialEq, Eq)]
 pub struct End {
     pub kind: EndKind,
@@ -46,12 +46,12 @@ impl End {
     ghost use Rattle.std.specs.Prelude.{◌≡◌};
     ghost use Rattle.bb_trace.specs.End.{Due};
 
-    /// Nothing can be chosen.
+    /// Nothing can be chosen, and quiescence changed nothing.
     pub const QUIESCENCE: End = End {
         kind: EndKind::Quiescence,
     };
 
-    /// The limit of cycles was reached.
+    /// The limit of cycles was reached, and something can still be chosen.
     pub const LIMIT: End = End {
         kind: EndKind::Limit,
     };
@@ -61,7 +61,7 @@ impl End {
         kind: EndKind::Full,
     };
 
-    /// The native of an activation is due.
+    /// Returns the end of a run in which the native of an activation is due.
     pub fn due(activation: Activation) -> End
         ensures { result ≡ Due activation }
     {

@@ -1,4 +1,4 @@
-//! Why a run is cut short. The page returns it, and so do the parts of the run.
+//! Why a run is cut short. The page and the parts of the run return it.
 
 ghost use Rattle.std.specs.Prelude.{◌≡◌};
 ghost use Rattle.bb_trace.specs.declared.halt.Halt.TheVariants.{Memory as OutOfMemory};

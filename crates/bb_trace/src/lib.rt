@@ -1,8 +1,9 @@
-//! What a run reports: its notes, their lines, and the page on which lines wait to be written to an output.
+//! What a run reports: its notes, their lines, and the page, which buffers lines until they are written to an output.
 //!
 //! - In: notes of a run, and an `Out`.
 //! - Out: the lines of a trace.
-//! - Callers rely on: a segment is written whole, or the output refused it; no line depends on when a page is written.
+//! - Callers rely on: a segment is written whole unless the output fails, and no line depends on when a page is
+//!   written.
 //! - Cases: `said`, `outputs`; `runs` and `model-runs` compare whole traces.
 #![tactic(auto)]
 

@@ -1,4 +1,4 @@
-//! The lines of a trace. The page (page.rt) adds one for each note. Cases of executions (bb_cases) have the same.
+//! The lines of a trace. The page (page.rt) adds one for each note. Cases of executions (bb_cases) use the same lines.
 
 ghost use Rattle.std.specs.Prelude.{◌≡◌, ◌++◌, ◌∷◌, [], OnOk, string_bytes};
 ghost use Rattle.bb_board.specs.Note.TheVariants.{Said as says};
@@ -20,7 +20,7 @@ use serde_json::Value as Json;
 use std::alloc::{AllocError, Global};
 use std::fmt::Write;
 
-/// Appends the line of a note.
+/// Appends the line of a note. The error: out of memory.
 pub(crate) fn add_note(
     alloc: Global,
     text: &mut String,
@@ -55,7 +55,7 @@ pub(crate) fn add_note(
     }
 }
 
-/// Appends the line of what a blackboard noted.
+/// Appends the line of a note of the blackboard. The error: out of memory.
 pub fn add_board_note(
     alloc: Global,
     text: &mut String,
@@ -162,7 +162,7 @@ fn add_said_value(
     }
 }
 
-/// Appends a value, as `say` writes it.
+/// Appends a value as `say` writes it. The error: out of memory.
 pub fn add_value(
     alloc: Global,
     text: &mut String,
@@ -222,7 +222,7 @@ fn add_decline(
     writeln!(text, "decline {name} unit {unit}")
 }
 
-// Appends the number of an activation, its source, unit and rating, and ends the line.
+// Appends the number of an activation, its source, unit and rating, and a line feed.
 fn add_rated(
     text: &mut String,
     sources: &[Source],
@@ -270,7 +270,7 @@ fn add_finish(text: &mut String, end: End) -> Result<(), AllocError>
     }
 }
 
-// No trace has this line: a run is not ended while a native is due.
+// No trace has this line: a run does not end while a native is due.
 fn add_due(text: &mut String, activation: Activation) -> Result<(), AllocError>
     ensures { OnOk result (string_bytes text.new
         ≡ string_bytes text.old ++ (end_text (Due activation) ++ 10 ∷ [])) }

@@ -1,17 +1,17 @@
-//! What a run reports. The run (bb_run) notes it, and line.rt makes a line of each note.
+//! What a run reports. The run (bb_run) emits notes, and line.rt makes a line of each.
 
 use crate::end::End;
 use bb_agenda::Activation;
 use bb_native::{Closing, Refusal};
 use bb_schema::UnitId;
 
-/// What a run reports: what the blackboard noted, and the steps of control.
+/// What a run reports: notes of the blackboard, and the steps of control.
 pub enum Note {
-    /// What the blackboard noted, or quiescence.
+    /// A note of the blackboard, or quiescence.
     Board(bb_board::Note),
     /// A new activation.
     Triggered(Activation),
-    /// A trigger that gave the source at this place no activation for a unit.
+    /// A trigger that the source at this place declined for a unit.
     Declined {
         source: u16,
         unit: UnitId,
@@ -25,13 +25,13 @@ pub enum Note {
         number: u64,
         base: i64,
     },
-    /// The choice of a cycle, with the rating by which it was made.
+    /// The choice of a cycle, with the rating at the choice.
     Chosen {
         cycle: u64,
         activation: Activation,
         rating: i128,
     },
-    /// The chosen activation is no longer of use.
+    /// The chosen activation is not needed any more.
     Invalid {
         number: u64,
     },
@@ -62,7 +62,7 @@ pub enum Note {
     Closed(Closing),
 }
 
-// By hand, so that a proof meets one call where it is dropped, and not each of its variants.
+// By hand: proofs then meet one call per drop, not one per variant.
 impl Drop for Note {
     fn drop(self) {
         match self {

@@ -1,4 +1,4 @@
-//! Where a trace is written. The page (page.rt) writes to it, and so do programs (bb_main) where they refuse.
+//! Where a trace is written. The page (page.rt) writes to it, and so do programs (bb_main) when they refuse an input.
 
 ghost use Rattle.std.specs.Prelude.{◌≡◌, ◌<◌, ◌≤◌, ◌==◌, ℕ, List, Option, Bool, false, not, length, take};
 ghost use Rattle.std.specs.Io.KnownBytes.{Appends};
@@ -8,13 +8,13 @@ use std::io::Write;
 
 /// Where a trace is written: it takes bytes until it fails.
 pub trait Out {
-    /// The bytes that the output took, where they are known.
+    /// The bytes that the output took, if they are known.
     ghost taken: { Self → Option (List ℕ) };
 
     /// Whether the output has failed.
     ghost has_failed: { Self → Bool };
 
-    /// Takes bytes from the front, at least one, and returns how many; or takes none, returns 0 and has failed.
+    /// Takes a prefix of the bytes, at least one, and returns its length; or takes none, returns 0 and has failed.
     fn put(&mut self, bytes: &[u8]) -> usize
         requires some { 0 < length bytes.now }
         requires open { has_failed self.old ≡ false }
@@ -22,18 +22,18 @@ pub trait Out {
         ensures taken { Appends (taken self.old) (taken self.new) (take result bytes.now) }
         ensures failed { has_failed self.new ≡ (result == 0) };
 
-    /// Whether the output has failed.
+    /// Returns whether the output has failed.
     fn failed(&self) -> bool
         ensures { result ≡ has_failed self.now };
 }
 
-/// A writer as an `Out`: an error or a write of no bytes is its failure.
+/// A writer as an `Out`. It fails on an error or a write of no bytes.
 pub struct Pipe<W: Write> {
     writer: W,
     failed: bool,
 }
 
-// By hand, so that a proof meets one call where it is dropped, and not each of its parts.
+// By hand: proofs then meet one call per drop, not one per part.
 impl<W: Write + Drop> Drop for Pipe<W> {
     fn drop(self) {
         let Pipe {
@@ -44,7 +44,7 @@ impl<W: Write + Drop> Drop for Pipe<W> {
 }
 
 impl<W: Write> Pipe<W> {
-    /// Writes to a writer from now on.
+    /// Creates an output that writes to a writer.
     pub fn new(writer: W) -> Pipe<W>
         ensures writer { result.writer ≡ writer }
         ensures open { result.failed ≡ false }
@@ -55,7 +55,7 @@ impl<W: Write> Pipe<W> {
         }
     }
 
-    /// The writer.
+    /// Returns the writer.
     pub fn into_inner(self) -> W
         ensures { result ≡ self.writer }
     {
@@ -84,7 +84,7 @@ impl<W: Write> Out for Pipe<W> {
     }
 }
 
-/// Writes all the bytes, and returns whether that succeeded: if not, the output took the front of them and has failed.
+/// Writes all the bytes and returns whether that succeeded. If not, the output took a prefix of them and has failed.
 pub fn put_all<O: Out>(out: &mut O, bytes: &[u8]) -> bool
     requires { O.has_failed out.old ≡ false }
     ensures ok { WhenTrue result (Appends (O.taken out.old) (O.taken out.new) bytes.now) }

@@ -12,26 +12,27 @@ use bb_run_plan::Plan;
 use std::alloc::{AllocError, Global};
 use std::marker::Model;
 
-/// The length from which a page is written.
+/// The length at which a page is written.
 pub const PAGE_LIMIT: usize = 65_536;
 
-// The work from which a page is written whatever its length, in steps of codes, so that a trace can be followed.
+// The work after which a page of any length is written, in steps of codes, so that a trace can be followed live.
 const WORK_LIMIT: u64 = 1 << 20;
 
-// The work that a segment counts for besides the steps of its execution, so that a few hundred segments are enough.
+// The work that a segment counts for besides the steps of its execution, so that a page is written after a few hundred
+// segments at most.
 const SEGMENT_WORK: u64 = 1 << 12;
 
-/// Text that waits to be written.
+/// Text that is not written yet.
 pub struct Page {
     alloc: Global,
     text: Vec<u8>,
-    // The line that is being made: only whole lines are appended to the text.
+    // The line being made: only whole lines are appended to the text.
     line: String,
-    // The work that was done since the page was last written.
+    // The work since the page was last written.
     work: u64,
 }
 
-// By hand, so that a proof meets one call where it is dropped, and not each of its parts.
+// By hand: proofs then meet one call per drop, not one per part.
 impl Drop for Page {
     fn drop(self) {
         let Page {
@@ -52,7 +53,7 @@ impl Model for Page {
 }
 
 impl Page {
-    /// An empty page. It allocates nothing.
+    /// Creates an empty page. Allocates nothing.
     pub fn new(alloc: Global) -> Page
         ensures { result ≡ [] }
     {
@@ -64,7 +65,7 @@ impl Page {
         }
     }
 
-    /// The allocator of the page. Whoever adds segments to it takes memory from it too.
+    /// Returns the allocator of the page. Callers that add segments allocate from it too.
     pub fn alloc(&self) -> Global {
         self.alloc
     }
@@ -83,8 +84,8 @@ impl Page {
         Ok(())
     }
 
-    /// Writes the page if it has reached `PAGE_LIMIT`, or if much was done since it was last written. Afterwards it is
-    /// shorter than that.
+    /// Writes the page if it has reached `PAGE_LIMIT`, or if much was done since it was last written. On success it is
+    /// then shorter than `PAGE_LIMIT`. `Write`: the output failed.
     pub fn spill<O: Out>(&mut self, out: &mut O) -> Result<(), Halt>
         requires { O.has_failed out.old ≡ false }
         ensures written { Spills (O.taken out.old) (O.taken out.new) self.old self.new result }
@@ -97,7 +98,7 @@ impl Page {
         self.flush(out)
     }
 
-    /// Writes the page, which is empty afterwards.
+    /// Writes the page and empties it. `Write`: the output failed, after taking a prefix of the page.
     pub fn flush<O: Out>(&mut self, out: &mut O) -> Result<(), Halt>
         requires { O.has_failed out.old ≡ false }
         ensures written { Flushes (O.taken out.old) (O.taken out.new) self.old self.new result }
@@ -112,7 +113,7 @@ impl Page {
     }
 }
 
-// The work of a segment, by its last note: the end of an execution comes last.
+// The work of a segment, by its last note: the note of an execution's end comes last.
 fn work_of(notes: &[Note]) -> u64 {
     match notes.last() {
         Some(Note::Ended { steps, .. }) => SEGMENT_WORK.saturating_add(
@@ -122,7 +123,7 @@ fn work_of(notes: &[Note]) -> u64 {
     }
 }
 
-// Appends a line for each note. After an error the text still begins with what was there before.
+// Appends a line for each note. After an error the text still begins with its old content.
 fn add_notes(
     alloc: Global,
     line: &mut String,

@@ -7,11 +7,11 @@ use Rattle.std.proofs.lemmas.Map.{keys-set_value}
 use Rattle.std.proofs.lemmas.Bool.{eqb-true}
 use Rattle.bb_schema_classes.specs.declared.value.Value.{Value}
 use Rattle.bb_units.specs.declared.unit.Unit.{Unit}
-use Rattle.bb_schema_slots.specs.declared.slot.Slot.{Slot}
+use Rattle.bb_schema.specs.declared.slot.Slot.{Slot}
 use Rattle.bb_schema_classes.specs.Kinds.{kind_of_value}
 use Rattle.bb_schema_classes.specs.Values.{value_fits}
 use Rattle.bb_schema.specs.Schema.{Schema}
-use Rattle.bb_schema_slots.specs.Slots.{default_in}
+use Rattle.bb_schema.specs.Slots.{default_in}
 use Rattle.bb_schema_classes.specs.Fits.{IsHeld}
 use Rattle.bb_schema.specs.Fits.{IsSlot, Fits}
 use Rattle.bb_schema_classes.proofs.Laws.{All-at}

@@ -1,4 +1,4 @@
--- The value of what a slot holds.
+-- The value that a slot holds.
 use Rattle.bb_schema_classes.specs.declared.value.Value.{Value}
 use Rattle.bb_units.specs.declared.held.Content.{Content}
 use Rattle.bb_units.specs.declared.held.Content.TheVariants.{Default, Given}

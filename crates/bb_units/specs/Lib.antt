@@ -1,12 +1,12 @@
--- the value of what a slot holds
+-- the value that a slot holds
 pub mod Held
 -- the values of a unit
 pub mod Values
--- which slots the units of a class have, and what a new unit has in them
+-- the slots of the units of a class, and their values in a new unit
 pub mod Layout
--- the units, and each change of them
+-- the units, and every change of them
 pub mod Units
--- what holds of all units at any time
+-- the invariant of the units
 pub mod Fits
--- what only invariants and proofs speak of
+-- definitions that only invariants and proofs use
 pub mod proving

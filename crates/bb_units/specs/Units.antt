@@ -21,7 +21,7 @@ pub record Units : Type 0 where
   -- which slots the units of each class have
   pub layout : Layout
 
--- the units of some entries
+-- the units in a list of entries
 abbrev pub units_of : List (ℕ × Unit) → map.FinMap nat_cmp Unit
 units_of entries = map.from_entries entries
 
@@ -29,11 +29,11 @@ units_of entries = map.from_entries entries
 abbrev pub no_units : Layout → Units
 no_units l = record { next = 1; units = map.empty; layout = l }
 
--- the number names a unit
+-- whether the number names a live unit
 abbrev pub is_live : Units → ℕ → Bool
 is_live u n = map.contains_key u.units n
 
--- the numbers of the live units, rising
+-- the numbers of the live units, ascending
 abbrev pub live_units : Units → List ℕ
 live_units u = map.keys u.units
 
@@ -48,7 +48,7 @@ value_among m n slot = option_and_then (λ x. value_at x.values slot) (map.get m
 abbrev pub value_of : Units → ℕ → ℕ → Option Value
 value_of u n slot = value_among u.units n slot
 
--- whether the unit is live, and the slot is among those of its class and an ordinary one
+-- whether the unit is live, and the slot is an ordinary slot of its class
 abbrev pub has_slot : Units → ℕ → ℕ → Bool
 has_slot u n slot =
     option_map_or
@@ -59,11 +59,11 @@ has_slot u n slot =
 abbrev pub takes : Units → ℕ → ℕ → Value → Bool
 takes u n slot value = is_some (value_of u n slot) && can_hold u.layout slot value
 
--- no unit can be created: as many are live as can be, or the last number was given out
+-- whether no unit can be created: the maximum are live, or the last number was given out
 abbrev pub is_full : Units → Bool
 is_full u = nat_le UNIT_LIMIT (map.len u.units) || nat_le (2 ^ 63) u.next
 
--- the number that a new unit gets, if there can be one
+-- the number of a new unit, if one can be created
 abbrev pub next_number : Units → Result ℕ CreateFault
 next_number u = if is_full u then Err Full else Ok u.next
 
@@ -71,12 +71,12 @@ next_number u = if is_full u then Err Full else Ok u.next
 abbrev pub new_unit : Layout → ℕ → Unit
 new_unit l class = record { class = class; values = blank l class }
 
--- the units with one more, under the next number
+-- the units with a new one, under the next number
 abbrev pub after_create : Units → ℕ → Units
 after_create u class =
     record { next = u.next + 1; units = map.insert u.units u.next (new_unit u.layout class); layout = u.layout }
 
--- the units without one that is deleted
+-- the units without a deleted one
 abbrev pub after_delete : Units → ℕ → Units
 after_delete u n = record { next = u.next; units = map.remove u.units n; layout = u.layout }
 

@@ -1,4 +1,4 @@
--- The values of a unit: each under the number of its slot.
+-- The values of a unit, each under the number of its slot.
 use Rattle.std.specs.Prelude.{ℕ, List, Option, ◌==◌, position}
 use Rattle.std.specs.Map.{lookup, set_value}
 use Rattle.bb_schema_classes.specs.declared.value.Value.{Value}
@@ -7,7 +7,7 @@ use Rattle.bb_schema_classes.specs.declared.value.Value.{Value}
 abbrev pub value_at : List (ℕ × Value) → ℕ → Option Value
 value_at values slot = lookup (λ s. s == slot) values
 
--- values with another value for one slot
+-- the values with another value for one slot
 abbrev pub with_value : List (ℕ × Value) → ℕ → Value → List (ℕ × Value)
 with_value values slot value = set_value (λ s. s == slot) values value
 

@@ -1,5 +1,5 @@
--- What only the invariants of models and the proofs speak of.
--- how units are stored as data that can be told apart
+-- Definitions that only the invariants of models and the proofs use.
+-- how units are encoded as data that can be compared
 pub mod Codes
--- the live units in a slab, and their keys in a list by their numbers
+-- the live units in a slab, and their keys in a list by number
 pub mod Numbered

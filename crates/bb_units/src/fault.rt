@@ -6,10 +6,10 @@ ghost use Rattle.bb_units.specs.declared.fault.CreateFault.TheVariants.{Memory a
 use std::alloc::{AllocError, AllocFailed};
 use thiserror::Error;
 
-/// Why a unit could not be created. The units are as before.
+/// Why a unit could not be created. The units are unchanged.
 #[derive(Clone, Copy, Debug, PartialEq, Eq, Error)]
 pub enum CreateFault {
-    /// As many units are live as can be, or all numbers are used.
+    /// 65,536 units are live, or all numbers are used.
     #[error("no more units")]
     Full,
     /// Memory ran out.

@@ -1,4 +1,4 @@
-//! What a slot of a unit holds. `values.rt` keeps one for each ordinary slot of a unit.
+//! The contents of a slot of a unit. `values.rt` stores one for each ordinary slot of a unit.
 
 ghost use Rattle.std.specs.Prelude.{◌≡◌};
 ghost use Rattle.bb_units.specs.Held.{value_of_content};
@@ -7,21 +7,21 @@ use crate::shared_value::SharedValue;
 use bb_schema::Value;
 use std::marker::Model;
 
-// Where the value of a slot comes from.
+// The source of a slot's value.
 #[derive(Drop)]
 enum Content {
-    // The default of the slot, which the layout and all units that were given no other value share.
+    // The default of the slot, shared by the layout and all units that were given no other value.
     Default(SharedValue),
-    // A value that was given to the slot.
+    // A value that the slot was given.
     Given(Value),
 }
 
-/// What a slot of a unit holds: its default, which is not copied, or a value of its own. Contracts see the value.
+/// The contents of a slot of a unit: its default, which is not copied, or its own value. Contracts see the value.
 pub(crate) struct Held {
     content: Content,
 }
 
-// By hand, so that a proof meets one call where it is dropped, and not each kind of value.
+// Written by hand, so that a proof meets one call where it is dropped, rather than every kind of value.
 impl Drop for Held {
     fn drop(self) {
         let Held { content: _ } = self;
@@ -37,7 +37,7 @@ impl Model for Held {
     ghost view = { λ h. value_of_content h.content };
 }
 
-// The value of what a slot holds.
+// The value that a slot holds.
 fn value_of(content: &Content) -> &Value
     ensures { result.now ≡ value_of_content content.now }
 {
@@ -48,7 +48,7 @@ fn value_of(content: &Content) -> &Value
 }
 
 impl Held {
-    /// A default, shared with the layout.
+    /// Holds a default, shared with the layout.
     pub(crate) fn default(value: SharedValue) -> Held
         ensures { result ≡ value }
     {
@@ -57,7 +57,7 @@ impl Held {
         }
     }
 
-    /// A value of the slot's own.
+    /// Holds the slot's own value.
     pub(crate) fn given(value: Value) -> Held
         ensures { result ≡ value }
     {
@@ -66,7 +66,7 @@ impl Held {
         }
     }
 
-    /// The value.
+    /// Returns the value.
     pub(crate) fn get(&self) -> &Value
         ensures { result.now ≡ self.now }
     {

@@ -1,9 +1,9 @@
-//! What the units keep of their schema: `units.rt` asks it for the values of a new unit.
+//! The parts of the schema that the units keep. `units.rt` asks for the values of a new unit.
 
 ghost use Rattle.std.specs.Prelude.{◌≡◌, ◌<◌, ◌↔◌, IsTrue, IfOk, length, map, option_map};
 ghost use Rattle.bb_schema_classes.specs.Values.{label_counts};
 ghost use Rattle.bb_schema.specs.Schema.{default_of};
-ghost use Rattle.bb_schema_slots.specs.Slots.{default_in};
+ghost use Rattle.bb_schema.specs.Slots.{default_in};
 ghost use Rattle.bb_units.specs.Layout.{layout_of, default_at, can_hold, defaults_of, blank};
 
 use crate::held::Held;
@@ -14,8 +14,8 @@ use bb_schema::{ClassId, Kind, LabelSetId, Schema, SlotId, Value};
 use std::alloc::Global;
 use std::marker::Model;
 
-/// What the units keep of their schema: which slots each class has, what a new unit has in them, and what they can
-/// hold.
+/// The parts of the schema that the units keep: the slots of each class, the values of a new unit, and the values that
+/// slots can hold.
 #[derive(Drop)]
 pub(crate) struct Layout {
     // By class, all its slots in class order.
@@ -49,7 +49,7 @@ fn default_at(defaults: &[Option<SharedValue>], slot: SlotId) -> Option<&SharedV
     }
 }
 
-// The slots that have a default, each with it, in their order.
+// The slots that have a default, in their order, each with its default.
 fn defaults_of(
     alloc: Global,
     defaults: &[Option<SharedValue>],
@@ -78,7 +78,7 @@ fn slots_by_class(alloc: Global, schema: &Schema) -> Result<Vec<Vec<SlotId>>, Me
     Ok(lists)
 }
 
-// What a new unit has in a slot. A link slot is `None`.
+// The default of a slot; `None` for a link slot.
 fn default_of(alloc: Global, schema: &Schema, slot: SlotId) -> Result<Option<SharedValue>, Memory>
     requires { slot < length schema.now.slots }
     ensures { IfOk result (λ default. default ≡ default_of schema.now slot) }
@@ -112,7 +112,7 @@ fn label_counts(alloc: Global, schema: &Schema) -> Result<Vec<usize>, Memory>
 }
 
 impl Layout {
-    /// What the units of a schema keep of it.
+    /// Builds the layout of the units of a schema.
     pub(crate) fn of(alloc: Global, schema: &Schema) -> Result<Layout, Memory>
         ensures { IfOk result (λ layout. layout ≡ layout_of schema.now) }
     {
@@ -123,14 +123,14 @@ impl Layout {
         })
     }
 
-    /// Whether a number names a class.
+    /// Returns whether a number names a class.
     pub(crate) fn has_class(&self, class: ClassId) -> bool
         ensures { IsTrue result ↔ (class < length self.now.slots) }
     {
         (class as usize) < self.slots.len()
     }
 
-    /// Whether a slot is an ordinary one that can hold a value.
+    /// Returns whether a slot is an ordinary slot that can hold a value.
     pub(crate) fn can_hold(&self, slot: SlotId, value: &Value) -> bool
         ensures { result ≡ can_hold self.now slot value.now }
     {
@@ -140,7 +140,8 @@ impl Layout {
         }
     }
 
-    /// The values of a new unit: each ordinary slot of its class with its default. A class that isn't there has none.
+    /// Returns the values of a new unit: each ordinary slot of its class, with its default. A class that doesn't exist
+    /// has none.
     pub(crate) fn blank(&self, alloc: Global, class: ClassId) -> Result<Values, Memory>
         ensures { IfOk result (λ values. values ≡ blank self.now class) }
     {

@@ -1,10 +1,9 @@
-//! The units of a blackboard: which numbers are live, of which class, and with which values.
+//! The units of a blackboard: which numbers are live, with their classes and values.
 //!
-//! - In: creations, deletions and values of slots that fit the class.
+//! - In: created and deleted units, and slot values that fit the class.
 //! - Out: `Units`, a finite map from unit numbers to a class and its values.
-//! - Callers rely on: a number that was given out is never given to another unit, and `UNIT_LIMIT` is the most that are
-//!   live.
-//! - Cases: `units`, `values`, and `documents` (first units).
+//! - Callers rely on: a number is given to one unit only, and at most `UNIT_LIMIT` units are live.
+//! - Cases: `units`, `values`, and `documents` (initial units).
 #![tactic(auto)]
 
 mod fault;

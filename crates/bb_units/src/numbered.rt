@@ -1,5 +1,5 @@
-//! The live units: a slab that has them, and a list that gives each number its key there. `units.rt` keeps them in it,
-//! creates, changes and deletes them.
+//! The live units: a slab stores them, and a list gives each number its key in the slab. `units.rt` creates, changes
+//! and deletes units here.
 
 ghost use Rattle.std.specs.Prelude.{◌≡◌, ◌<◌, ◌^◌, None, IfSome, IfOk, OnOk, OnErr, IsTrue, option_map};
 ghost use Rattle.std.specs.FinMap as map;
@@ -15,17 +15,18 @@ use slab::Slab;
 use std::alloc::Global;
 use std::marker::Model;
 
-// A list of at most this length keeps its gaps.
+// Gaps in a list of at most this length are not closed.
 const FEW: usize = 32;
 
-/// The live units by their numbers, which it gives out. A unit stays in one place of the slab, and a list beside it has
-/// the keys by the numbers. These rise, and a unit that is deleted leaves a gap in the list, so a look-up mostly goes
-/// straight to the place. Once there are more gaps than units, all gaps are closed at once.
+/// The live units by their numbers, which are given out here. A unit stays at one place in the slab, and a separate
+/// list maps numbers to keys. The numbers in the list rise. A deleted unit leaves a gap in it, so most look-ups go
+/// straight to their place. Once there are more gaps than live units in a list that is not short, all gaps are closed
+/// at once.
 #[derive(Drop)]
 pub(crate) struct Numbered {
     // The number of the next unit, above that of each entry.
     next: UnitId,
-    // Each number with the key of its unit, or with none where that was deleted. The numbers rise.
+    // Each number with the key of its unit, or `None` if the unit was deleted. The numbers rise.
     entries: Vec<(UnitId, Option<usize>)>,
     // The live units, each under its key.
     units: Slab<Unit>,
@@ -44,7 +45,7 @@ impl Model for Numbered {
     ghost invariant = { λ n. AreNumbered n.next n.entries.items n.units };
 }
 
-// A place, if the entry of a number stands there.
+// Returns a place, if the entry there has this number.
 fn tried(entries: &[(UnitId, Option<usize>)], place: usize, unit: UnitId) -> Option<usize>
     ensures { IfSome result (λ place. IsAt entries.now place unit) }
 {
@@ -54,7 +55,7 @@ fn tried(entries: &[(UnitId, Option<usize>)], place: usize, unit: UnitId) -> Opt
     Some(place)
 }
 
-// The place of a number, if none is left out between the first one and it. A number below gives a place outside.
+// The place of a number, if no number is missing between the first one and it. A smaller number gives a place outside.
 fn place_from_first(entries: &[(UnitId, Option<usize>)], unit: UnitId) -> Option<usize>
     ensures { IfSome result (λ place. IsAt entries.now place unit) }
 {
@@ -62,7 +63,7 @@ fn place_from_first(entries: &[(UnitId, Option<usize>)], unit: UnitId) -> Option
     tried(entries, unit.wrapping_sub(first) as usize, unit)
 }
 
-// The place of a number, if none is left out between it and the last one. A number above gives a place outside.
+// The place of a number, if no number is missing between it and the last one. A larger number gives a place outside.
 fn place_from_last(entries: &[(UnitId, Option<usize>)], unit: UnitId) -> Option<usize>
     ensures { IfSome result (λ place. IsAt entries.now place unit) }
 {
@@ -71,7 +72,7 @@ fn place_from_last(entries: &[(UnitId, Option<usize>)], unit: UnitId) -> Option<
     tried(entries, (entries.len() - 1).wrapping_sub(behind), unit)
 }
 
-// The place of a number: counted from the first one or from the last, or else found by halving.
+// The place of a number: counted from the first one or from the last, or else found by binary search.
 fn place_of(entries: &[(UnitId, Option<usize>)], unit: UnitId) -> Option<usize>
     requires { Rise entries.now }
     ensures { result ≡ place_in unit entries.now }
@@ -94,7 +95,7 @@ fn key_of(entries: &[(UnitId, Option<usize>)], unit: UnitId) -> Option<usize>
     entries[place].1
 }
 
-// Gives a slot of the unit under a key another value, if the key and the slot are there.
+// Sets a slot of the unit under a key to another value, if the key and the slot exist.
 fn update(units: &mut Slab<Unit>, key: usize, slot: SlotId, value: Value)
     ensures { units.new ≡ slab_set units.old key slot value }
 {
@@ -104,7 +105,7 @@ fn update(units: &mut Slab<Unit>, key: usize, slot: SlotId, value: Value)
     }
 }
 
-// Takes the key of a number out of its entry, which leaves a gap.
+// Removes the key of a number from its entry, which leaves a gap.
 fn vacate(entries: &mut Vec<(UnitId, Option<usize>)>, unit: UnitId) -> Option<usize>
     requires { Rise entries.old.items }
     ensures key { result ≡ key_in unit entries.old.items }
@@ -114,7 +115,7 @@ fn vacate(entries: &mut Vec<(UnitId, Option<usize>)>, unit: UnitId) -> Option<us
     entries[place].1.take()
 }
 
-// Closes the gaps, if they are more than the live units and the list is not short.
+// Closes the gaps, if there are more than live units and the list is not short.
 fn close_gaps(entries: &mut Vec<(UnitId, Option<usize>)>, live: usize)
     ensures { HaveSame entries.old.items entries.new.items }
 {
@@ -138,7 +139,7 @@ fn used_numbers(alloc: Global, entries: &[(UnitId, Option<usize>)]) -> Result<Ve
 }
 
 impl Numbered {
-    /// No units. The first one gets the number 1.
+    /// Creates the store, with no units. The first unit gets the number 1.
     pub(crate) fn new(alloc: Global) -> Numbered
         ensures { result ≡ none_given }
     {
@@ -149,35 +150,36 @@ impl Numbered {
         }
     }
 
-    /// The number of live units.
+    /// Returns the number of live units.
     pub(crate) fn len(&self) -> usize
         ensures { result ≡ map.len self.now.units }
     {
         self.units.len()
     }
 
-    /// The number that the next unit gets.
+    /// Returns the number that the next unit gets.
     pub(crate) fn next(&self) -> UnitId
         ensures { result ≡ self.now.next }
     {
         self.next
     }
 
-    /// The numbers of the live units, rising. There are at most twice as many entries as live units, or few.
+    /// Returns the numbers of the live units, ascending. The list has at most twice as many entries as live units, or
+    /// is short.
     pub(crate) fn list(&self, alloc: Global) -> Result<Vec<UnitId>, Memory>
         ensures { IfOk result (λ list. list.items ≡ map.keys self.now.units) }
     {
         used_numbers(alloc, &self.entries)
     }
 
-    /// The unit of a number, if it is live.
+    /// Returns the unit with a number, if it is live.
     pub(crate) fn get(&self, unit: UnitId) -> Option<&Unit>
         ensures { option_map (λ x. x.now) result ≡ map.get self.now.units unit }
     {
         self.units.get(key_of(&self.entries, unit)?)
     }
 
-    /// Appends a unit, and returns its number, the next one. An error changes nothing.
+    /// Adds a unit and returns its number, the next one. An error changes nothing.
     pub(crate) fn push(&mut self, unit: Unit) -> Result<UnitId, Memory>
         requires { self.old.next < 2 ^ 63 }
         ensures number { IfOk result (λ number. number ≡ self.old.next) }
@@ -192,7 +194,7 @@ impl Numbered {
         Ok(number)
     }
 
-    /// Gives a slot of a unit another value, if the unit is live and has the slot.
+    /// Sets a slot of a unit to another value, if the unit is live and has the slot.
     pub(crate) fn set(&mut self, unit: UnitId, slot: SlotId, value: Value)
         ensures { self.new ≡ one_set self.old unit slot value }
     {
@@ -202,7 +204,7 @@ impl Numbered {
         }
     }
 
-    /// Takes a live unit out.
+    /// Removes a live unit.
     pub(crate) fn remove(&mut self, unit: UnitId)
         requires { IsTrue (map.contains_key self.old.units unit) }
         ensures { self.new ≡ one_gone self.old unit }

@@ -1,5 +1,5 @@
-//! A value with several owners. `layout.rt` keeps the default of each slot in one, and each unit that was not given
-//! another value owns it too.
+//! A value with several owners: the layout, which keeps the default of each slot in one, and each unit that was given
+//! no other value.
 
 ghost use Rattle.std.specs.Prelude.{◌≡◌, IfOk};
 
@@ -14,7 +14,7 @@ pub(crate) struct SharedValue {
     value: Rc<Value>,
 }
 
-// By hand, so that a proof meets one call where it is dropped, and not each kind of value.
+// Written by hand, so that a proof meets one call where it is dropped, rather than every kind of value.
 impl Drop for SharedValue {
     fn drop(self) {
         let SharedValue { value: _ } = self;
@@ -30,7 +30,7 @@ impl Model for SharedValue {
 }
 
 impl SharedValue {
-    /// A value that can be shared.
+    /// Makes a value that can be shared.
     pub(crate) fn new(alloc: Global, value: Value) -> Result<SharedValue, Memory>
         ensures { IfOk result (λ shared. shared ≡ value) }
     {
@@ -39,7 +39,7 @@ impl SharedValue {
         })
     }
 
-    /// The value, for one more owner. It is not copied.
+    /// Returns the value for another owner, without copying it.
     pub(crate) fn share(&self) -> Result<SharedValue, Memory>
         ensures { IfOk result (λ shared. shared ≡ self.now) }
     {
@@ -48,7 +48,7 @@ impl SharedValue {
         })
     }
 
-    /// The value.
+    /// Returns the value.
     pub(crate) fn get(&self) -> &Value
         ensures { result.now ≡ self.now }
     {

@@ -1,9 +1,9 @@
-//! A live unit. `units.rt` keeps each under its number.
+//! A live unit. `units.rt` stores each under its number.
 
 use crate::values::Values;
 use bb_schema::ClassId;
 
-/// A unit: its class, and the value of each ordinary slot that its class has.
+/// A unit: its class, and the value of each ordinary slot of its class.
 #[derive(Drop)]
 pub(crate) struct Unit {
     pub(crate) class: ClassId,

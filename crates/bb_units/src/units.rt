@@ -1,4 +1,4 @@
-//! The units of a blackboard. The board changes them and reads them.
+//! The units of a blackboard. The board reads and changes them.
 
 ghost use Rattle.std.specs.Prelude.{◌≡◌, ◌<◌, ◌↔◌, IsTrue, IsSome, IfOk, OnOk, OnErr, Some, length, option_map};
 ghost use Rattle.std.specs.FinMap as map;
@@ -17,10 +17,10 @@ use bb_schema::{ClassId, Schema, SlotId, UnitId, Value};
 use std::alloc::Global;
 use std::marker::Model;
 
-/// The greatest number of live units.
+/// The maximum number of live units.
 pub const UNIT_LIMIT: usize = 65_536;
 
-// The greatest number that a unit can get.
+// The last number that a unit can get.
 const NUMBER_LIMIT: u64 = (1 << 63) - 1;
 
 /// The units of a blackboard, each under its number (GBBopen Reference Manual, unit instances).
@@ -54,11 +54,11 @@ fn value_in(units: &Numbered, unit: UnitId, slot: SlotId) -> Option<&Value>
 }
 
 impl Units {
-    /// No units, of a blackboard with this schema.
+    /// Creates the units of a blackboard with this schema: none yet.
     pub fn new(alloc: Global, schema: &Schema) -> Result<Units, Memory>
         ensures { IfOk result (λ units. units ≡ no_units (layout_of schema.now)) }
     {
-        // For the proof: a slot can hold its default.
+        // For the proof: each ordinary slot can hold its default.
         schema.fits();
         Ok(Units {
             alloc,
@@ -67,42 +67,42 @@ impl Units {
         })
     }
 
-    /// The number of live units, at most 65,536.
+    /// Returns the number of live units, at most 65,536.
     pub fn count(&self) -> usize
         ensures { result ≡ map.len self.now.units }
     {
         self.units.len()
     }
 
-    /// The numbers of the live units, rising, in a list of their own.
+    /// Returns the numbers of the live units, ascending, as a new list.
     pub fn list(&self, alloc: Global) -> Result<Vec<UnitId>, Memory>
         ensures { IfOk result (λ list. list.items ≡ live_units self.now) }
     {
         self.units.list(alloc)
     }
 
-    /// The number that the next unit gets, up to 2^63.
+    /// Returns the number that the next unit gets, at most 2^63.
     pub fn next(&self) -> UnitId
         ensures { result ≡ self.now.next }
     {
         self.units.next()
     }
 
-    /// Whether a number names a class, so that units of it can be created.
+    /// Returns whether a number names a class. Only then can units of it be created.
     pub fn has_class(&self, class: ClassId) -> bool
         ensures { IsTrue result ↔ (class < length self.now.layout.slots) }
     {
         self.layout.has_class(class)
     }
 
-    /// Whether a number names a unit.
+    /// Returns whether a number names a live unit.
     pub fn live(&self, unit: UnitId) -> bool
         ensures { result ≡ is_live self.now unit }
     {
         self.units.get(unit).is_some()
     }
 
-    /// The class of a live unit.
+    /// Returns the class of a live unit.
     pub fn class_of(&self, unit: UnitId) -> ClassId
         requires { IsTrue (is_live self.now unit) }
         ensures { class_of self.now unit ≡ Some result }
@@ -110,14 +110,14 @@ impl Units {
         self.units.get(unit).unwrap().class
     }
 
-    /// The class of a unit, if it is live.
+    /// Returns the class of a unit, or `None` if it is not live.
     pub fn class_if_live(&self, unit: UnitId) -> Option<ClassId>
         ensures { result ≡ class_of self.now unit }
     {
         Some(self.units.get(unit)?.class)
     }
 
-    /// The value of an ordinary slot of a live unit, one that its class has.
+    /// Returns the value of an ordinary slot of a live unit. The unit's class must have the slot.
     pub fn get(&self, unit: UnitId, slot: SlotId) -> &Value
         requires { IsSome (value_of self.now unit slot) }
         ensures { value_of self.now unit slot ≡ Some result.now }
@@ -125,7 +125,7 @@ impl Units {
         value_in(&self.units, unit, slot).unwrap()
     }
 
-    /// Whether a number names a unit whose class has the ordinary slot.
+    /// Returns whether a number names a live unit whose class has this ordinary slot.
     pub fn has(&self, unit: UnitId, slot: SlotId) -> bool
         ensures value { IsTrue result ↔ IsSome (value_of self.now unit slot) }
         ensures listed { result ≡ has_slot self.now unit slot }
@@ -133,24 +133,24 @@ impl Units {
         value_in(&self.units, unit, slot).is_some()
     }
 
-    /// Whether a slot is an ordinary one of the schema, and can hold a value: one of its kind, a text of at most 65,535
-    /// bytes, a label that is there, an interval in order.
+    /// Returns whether a slot is an ordinary slot of the schema and can hold a value: one of its kind, a text of at
+    /// most 65,535 bytes, an existing label, an interval in order.
     pub fn can_hold(&self, slot: SlotId, value: &Value) -> bool
         ensures { result ≡ can_hold self.now.layout slot value.now }
     {
         self.layout.can_hold(slot, value)
     }
 
-    /// Whether a number names a unit whose class has the ordinary slot, and the slot can hold a value: one of its kind,
-    /// a text of at most 65,535 bytes, a label that is there, an interval in order.
+    /// Returns whether a number names a live unit whose class has this ordinary slot, and the slot can hold the value,
+    /// as `can_hold` tests it.
     pub fn takes(&self, unit: UnitId, slot: SlotId, value: &Value) -> bool
         ensures { result ≡ takes self.now unit slot value.now }
     {
         self.has(unit, slot) && self.can_hold(slot, value)
     }
 
-    /// Creates a unit of a class that is there, each of its slots at its default, and returns its number, the next one.
-    /// `Full`: 65,536 units are live, or all numbers below 2^63 are used. An error changes nothing.
+    /// Creates a unit of an existing class, with each ordinary slot at its default, and returns its number, the next
+    /// one. `Full`: 65,536 units are live, or all numbers below 2^63 are used. An error changes nothing.
     pub fn create(&mut self, class: ClassId) -> Result<UnitId, CreateFault>
         requires { class < length self.old.layout.slots }
         ensures number { Gives CreateFault.Memory (λ number. number) result (next_number self.old) }
@@ -164,7 +164,7 @@ impl Units {
         Ok(self.units.push(Unit { class, values })?)
     }
 
-    /// Gives an ordinary slot of a live unit another value, one that the slot can hold.
+    /// Sets an ordinary slot of a live unit to a value that the slot can hold.
     pub fn set(&mut self, unit: UnitId, slot: SlotId, value: Value)
         requires { IsTrue (takes self.old unit slot value) }
         ensures { self.new ≡ after_set self.old unit slot value }
@@ -172,7 +172,7 @@ impl Units {
         self.units.set(unit, slot, value);
     }
 
-    /// Deletes a live unit. Its number is never used again.
+    /// Deletes a live unit. Its number is not used again.
     pub fn delete(&mut self, unit: UnitId)
         requires { IsTrue (is_live self.old unit) }
         ensures { self.new ≡ after_delete self.old unit }
@@ -180,9 +180,9 @@ impl Units {
         self.units.remove(unit);
     }
 
-    /// Does nothing, and says what holds of the units at any time: each number is above 0 and below the next one; at
-    /// most 65,536 units are live; the class of each is there, and each has exactly the ordinary slots of its class, in
-    /// class order, each with a value that it can hold.
+    /// Does nothing, but states what always holds of the units: every number is above 0 and below the next one; at most
+    /// 65,536 units are live; each unit has an existing class and exactly the ordinary slots of that class, in class
+    /// order, each with a value that it can hold.
     pub fn fits(&self)
         ensures { Fits self.now }
     {

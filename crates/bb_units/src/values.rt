@@ -1,4 +1,4 @@
-//! The values of a unit. `units.rt` reads and sets them, and `layout.rt` makes those of a new unit.
+//! The values of a unit. `units.rt` reads and sets them; `layout.rt` builds those of a new unit.
 
 ghost use Rattle.std.specs.Prelude.{◌≡◌, [], ◌∷◌, ◌++◌, IfOk, IsSome, nat_eq, option_map};
 ghost use Rattle.std.specs.Map.{lookup, set_value};
@@ -33,7 +33,7 @@ fn place(entries: &[(SlotId, Held)], slot: SlotId) -> Option<usize>
 }
 
 impl Values {
-    /// An empty list of values. It allocates nothing.
+    /// Creates an empty list of values, without allocating.
     pub(crate) fn new(alloc: Global) -> Values
         ensures { result ≡ [] }
     {
@@ -50,7 +50,7 @@ impl Values {
         Ok(())
     }
 
-    /// The value of a slot, if the slot is there.
+    /// Returns the value of a slot, if the unit has the slot.
     pub(crate) fn get(&self, slot: SlotId) -> Option<&Value>
         ensures { option_map (λ v. v.now) result ≡ value_at self.now slot }
     {
@@ -58,7 +58,7 @@ impl Values {
         Some(self.entries[place].1.get())
     }
 
-    /// Gives a slot that is there another value.
+    /// Sets a slot to another value, if the unit has the slot.
     pub(crate) fn set(&mut self, slot: SlotId, value: Value)
         ensures { self.new ≡ with_value self.old slot value }
     {

@@ -7,10 +7,10 @@ use Rattle.std.proofs.lemmas.List.Elements.{All-head, All-tail, All-map, All-fro
 use Rattle.std.proofs.lemmas.List.FromFn.{sum_by-map-range_with_len_more, length-map-range_with_len, length-range_with_len, get_or-range_with_len}
 use Rattle.std.proofs.lemmas.List.Sums.{sum_by-cons}
 use Rattle.bb_verify_effect.specs.Code.{Code, places}
-use Rattle.bb_verify_loops.specs.Loops.{depth, loops}
+use Rattle.bb_verify.specs.nesting.Loops.{depth, loops}
 use Rattle.bb_verify.specs.Budget.{turns, budget}
 use Rattle.bb_verify.specs.proving.Depths.{depths_of, count_of, counts_of, budget_by}
-use Rattle.bb_verify_loops.proofs.Laws.{few_around}
+use Rattle.bb_verify.proofs.nesting_lemmas.Laws.{few_around}
 
 le_trans : (a b c : ℕ) → a ≤ b → b ≤ c → a ≤ c
 le_trans a b c one two = omega (arith, one, two)

@@ -3,10 +3,10 @@ use Rattle.std.proofs.Common.{◌≡◌, ◌≤◌, List, length, Ok, refl, sym,
 use Rattle.bb_basis.proofs.ResultLemmas.{bind_ok, same_ok}
 use Rattle.bb_verify_effect.specs.Schema.{Schema}
 use Rattle.bb_verify_effect.specs.Code.{Code}
-use Rattle.bb_verify_effect.specs.FrameType.{Frame}
-use Rattle.bb_verify_effect.specs.PartType.{Part}
-use Rattle.bb_verify_loops.specs.Jumps.{jumps}
-use Rattle.bb_verify_loops.specs.Loops.{loops}
+use Rattle.bb_verify_effect.specs.declared.frame.Frame.{Frame}
+use Rattle.bb_verify_effect.specs.declared.part.Part.{Part}
+use Rattle.bb_verify.specs.nesting.Jumps.{jumps}
+use Rattle.bb_verify.specs.nesting.Loops.{loops}
 use Rattle.bb_verify.specs.Tables.{tables}
 use Rattle.bb_verify.specs.Places.{frames_of}
 use Rattle.bb_verify.specs.Accepted.{Checked, accepted, checked}

@@ -5,7 +5,7 @@ use Rattle.bb_basis.proofs.ResultLemmas.{same_ok}
 use Rattle.bb_verify_effect.specs.Edges.{Edges}
 use Rattle.bb_verify_effect.specs.Effect.{on}
 use Rattle.bb_verify_effect.specs.Flaw.{Flaw}
-use Rattle.bb_verify_effect.specs.FrameType.{Frame}
+use Rattle.bb_verify_effect.specs.declared.frame.Frame.{Frame}
 
 pub edges_ok : (r : Result Edges Flaw) (e : Option Frame × Option Frame) → (r >>= λ x. Ok (x.on, x.target)) ≡ Ok e → (x : Edges) × (r ≡ Ok x) × ((x.on, x.target) ≡ e)
 edges_ok (Ok x) e h = (x, refl, same_ok (x.on, x.target) e h)

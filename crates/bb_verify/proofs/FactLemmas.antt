@@ -3,15 +3,15 @@ use Rattle.std.proofs.Common.{◌≡◌, ◌≤◌, length, List, Ok}
 use Rattle.bb_basis.proofs.ResultLemmas.{bind_ok}
 use Rattle.bb_verify_effect.specs.Schema.{Schema}
 use Rattle.bb_verify_effect.specs.Code.{Code}
-use Rattle.bb_verify_effect.specs.FrameType.{Frame}
-use Rattle.bb_verify_effect.specs.PartType.{Part}
+use Rattle.bb_verify_effect.specs.declared.frame.Frame.{Frame}
+use Rattle.bb_verify_effect.specs.declared.part.Part.{Part}
 use Rattle.bb_verify.specs.Tables.{tables}
-use Rattle.bb_verify_loops.specs.Jumps.{jumps}
-use Rattle.bb_verify_loops.specs.Loops.{loops}
+use Rattle.bb_verify.specs.nesting.Jumps.{jumps}
+use Rattle.bb_verify.specs.nesting.Loops.{loops}
 use Rattle.bb_verify.specs.Places.{frames_of}
 use Rattle.bb_verify.specs.Accepted.{accepted}
 use Rattle.bb_verify.specs.Facts.{Facts}
-use Rattle.bb_verify_loops.proofs.Laws.{loop_passed}
+use Rattle.bb_verify.proofs.nesting_lemmas.Laws.{loop_passed}
 use Rattle.bb_verify.proofs.TableLemmas.{tables_ok}
 use Rattle.bb_verify.proofs.WalkLemmas.{walked}
 use Rattle.bb_verify.proofs.PhaseLemmas.{table_passed, jump_passed, heads_passed}

@@ -11,8 +11,8 @@ use Rattle.bb_verify_effect.specs.FrameEntry.{FrameEntry}
 use Rattle.bb_verify_effect.specs.Kind.{Kind}
 use Rattle.bb_verify_effect.specs.Kind.TheVariants.{Any, Ref, Old}
 use Rattle.bb_schema.specs.Ownership.{strikes}
-use Rattle.bb_verify_effect.specs.FrameType.{Frame}
-use Rattle.bb_verify_effect.specs.PartType.{Part}
+use Rattle.bb_verify_effect.specs.declared.frame.Frame.{Frame}
+use Rattle.bb_verify_effect.specs.declared.part.Part.{Part}
 use Rattle.bb_verify_effect.specs.Each.{each}
 use Rattle.bb_verify.specs.Tables.{known_kind, known_entry, known_frame, tables}
 use Rattle.bb_verify_effect.specs.Effect.{after_delete}

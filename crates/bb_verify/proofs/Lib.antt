@@ -12,3 +12,4 @@ pub mod NumberedLemmas
 pub mod Limits
 pub mod CheckedLemmas
 pub mod Laws
+pub mod nesting_lemmas

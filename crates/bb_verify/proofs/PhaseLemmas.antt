@@ -7,12 +7,12 @@ use Rattle.bb_basis.proofs.ResultLemmas.{bind_ok}
 use Rattle.bb_verify_effect.specs.Schema.{Schema}
 use Rattle.bb_verify_effect.specs.Code.{Code, places}
 use Rattle.bb_verify_effect.specs.Op.{Op}
-use Rattle.bb_verify_effect.specs.PartType.{Part}
+use Rattle.bb_verify_effect.specs.declared.part.Part.{Part}
 use Rattle.bb_verify_effect.specs.Each.{each}
 use Rattle.bb_verify_effect.specs.Flaws.{fault_at}
 use Rattle.bb_verify.specs.Tables.{in_tables, table_at, tables}
-use Rattle.bb_verify_loops.specs.Jumps.{check_target, jump_at, jumps}
-use Rattle.bb_verify_loops.specs.Loops.{loop_at, lowest_outside, none_outside, loops}
+use Rattle.bb_verify.specs.nesting.Jumps.{check_target, jump_at, jumps}
+use Rattle.bb_verify.specs.nesting.Loops.{loop_at, lowest_outside, none_outside, loops}
 use Rattle.bb_verify_effect.proofs.Laws.{range_at, no_fault}
 use Rattle.bb_verify.proofs.TableLemmas.{tables_ok}
 

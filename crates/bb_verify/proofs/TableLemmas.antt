@@ -11,8 +11,8 @@ use Rattle.bb_verify_effect.specs.Code.{Code, places}
 use Rattle.bb_verify_effect.specs.FrameEntry.{FrameEntry}
 use Rattle.bb_verify_effect.specs.Flaw.{Flaw}
 use Rattle.bb_verify_effect.specs.Flaw.TheVariants.{Table}
-use Rattle.bb_verify_effect.specs.FrameType.{Frame}
-use Rattle.bb_verify_effect.specs.PartType.{Part}
+use Rattle.bb_verify_effect.specs.declared.frame.Frame.{Frame}
+use Rattle.bb_verify_effect.specs.declared.part.Part.{Part}
 use Rattle.bb_verify_effect.specs.Each.{each}
 use Rattle.bb_verify_effect.specs.Flaws.{fault_at}
 use Rattle.bb_verify_effect.specs.Part.{units_of}

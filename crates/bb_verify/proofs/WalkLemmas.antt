@@ -11,8 +11,8 @@ use Rattle.bb_verify_effect.specs.Code.{Code, places}
 use Rattle.bb_verify_effect.specs.Op.{Op}
 use Rattle.bb_verify_effect.specs.Op.TheVariants as ops
 use Rattle.bb_verify_effect.specs.Edges.{Edges}
-use Rattle.bb_verify_effect.specs.FrameType.{Frame}
-use Rattle.bb_verify_effect.specs.PartType.{Part}
+use Rattle.bb_verify_effect.specs.declared.frame.Frame.{Frame}
+use Rattle.bb_verify_effect.specs.declared.part.Part.{Part}
 use Rattle.bb_verify_effect.specs.Flaws.{fault_at}
 use Rattle.bb_verify_effect.specs.Effect.{effect}
 use Rattle.bb_verify.specs.Places.{Walk, declared_at, declared_for, declared_frames, entry_frame, frame_at, has_next, on_due, target_due, one_more, visit_op, visit, first_walk, frames_of}

@@ -4,14 +4,14 @@ use Rattle.bb_basis.specs.Results.{◌>>=◌}
 use Rattle.bb_verify_effect.specs.Schema.{Schema}
 use Rattle.bb_verify_effect.specs.Code.{Code, IsCode}
 use Rattle.bb_verify_effect.specs.VerifyFault.{VerifyFault}
-use Rattle.bb_verify_effect.specs.FrameType.{Frame}
-use Rattle.bb_verify_effect.specs.PartType.{Part}
+use Rattle.bb_verify_effect.specs.declared.frame.Frame.{Frame}
+use Rattle.bb_verify_effect.specs.declared.part.Part.{Part}
 use Rattle.bb_verify.specs.Tables.{tables}
-use Rattle.bb_verify_loops.specs.Jumps.{jumps}
-use Rattle.bb_verify_loops.specs.Loops.{loops}
+use Rattle.bb_verify.specs.nesting.Jumps.{jumps}
+use Rattle.bb_verify.specs.nesting.Loops.{loops}
 use Rattle.bb_verify.specs.Places.{frames_of}
 
--- the frames of all places of a code that is accepted, or its first fault
+-- the frames of all places of an accepted code, or the first fault
 unfoldable pub accepted : Schema → Part → Code → Result (List Frame) VerifyFault
 accepted s part code = do
   _ ← tables s part code
@@ -19,13 +19,13 @@ accepted s part code = do
   _ ← loops code
   frames_of s part code
 
--- a code that was accepted, the part that it is for, and a frame for each of its places
+-- an accepted code, its part, and a frame for each place
 pub record Checked : Type 0 where
   pub code : Code
   pub part : Part
   pub frames : List Frame
 
--- a code that is accepted, with its part and its frames, or its first fault
+-- an accepted code, with its part and frames, or the first fault
 unfoldable pub checked : Schema → Part → Code → Result Checked VerifyFault
 checked s part code = do
   frames ← accepted s part code

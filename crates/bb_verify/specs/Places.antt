@@ -10,23 +10,23 @@ use Rattle.bb_verify_effect.specs.Op.{Op}
 use Rattle.bb_verify_effect.specs.Flaw.{Flaw}
 use Rattle.bb_verify_effect.specs.Flaw.TheVariants as flaws
 use Rattle.bb_verify_effect.specs.VerifyFault.{VerifyFault}
-use Rattle.bb_verify_effect.specs.FrameType.{Frame}
-use Rattle.bb_verify_effect.specs.PartType.{Part}
+use Rattle.bb_verify_effect.specs.declared.frame.Frame.{Frame}
+use Rattle.bb_verify_effect.specs.declared.part.Part.{Part}
 use Rattle.bb_verify_effect.specs.Flaws.{fault_at}
 use Rattle.bb_verify_effect.specs.Part.{units_of}
 use Rattle.bb_verify_effect.specs.Frame.{frame_of}
 use Rattle.bb_verify_effect.specs.Kinds.{frame_weakens}
 use Rattle.bb_verify_effect.specs.Effect.{effect}
-use Rattle.bb_verify_loops.specs.Jumps.{target_of}
+use Rattle.bb_verify.specs.nesting.Jumps.{target_of}
 
 -- ---- declared frames
 
--- the list of all places, with declared frames put at theirs
+-- the list of all places, with declared frames set at their places
 unfoldable pub with_frames : List (Option Frame) → List FrameEntry → List (Option Frame)
 with_frames all [] = all
 with_frames all (e ∷ es) = with_frames (set all e.place (Some (frame_of e.frame))) es
 
--- for each place of a code the frame that it declares there
+-- for each place of a code, the frame that is declared there
 unfoldable pub declared_frames : Code → List (Option Frame)
 declared_frames code = with_frames (replicate (length code.ops) None) code.frames
 
@@ -34,7 +34,7 @@ declared_frames code = with_frames (replicate (length code.ops) None) code.frame
 abbrev pub declared_at : List (Option Frame) → ℕ → Option Frame
 declared_at declared place = option_and_then (λ f. f) (slice_get declared place)
 
--- the frame before the first op: the part's units are in the first locals, and nothing is known of the others
+-- the frame before the first op: the part's units in the first locals; nothing is known of the others
 abbrev pub entry_frame : Part → ℕ → Frame
 entry_frame part locals = record {
   locals = units_of part ++ replicate (locals - length (units_of part)) Any;
@@ -43,41 +43,41 @@ entry_frame part locals = record {
 
 -- ---- one place
 
--- the frame of a place: the declared one, or else what the op before leaves
+-- the frame of a place: the declared one, or else the frame after the op before
 abbrev pub frame_at : (declared next : Option Frame) → Result Frame Flaw
 frame_at (Some f) next = Ok f
 frame_at None next = ok_or next flaws.Frame
 
--- what an op leaves may stand where a frame is declared
+-- the frame after an op is allowed where this one is declared
 unfoldable pub fits_declared : Schema → (left declared : Frame) → Result (Unit {0}) Flaw
 fits_declared s left declared = if frame_weakens s left declared then Ok tt else Err flaws.Frame
 
--- the edge to the next place, where a frame may be declared
+-- the edge to the next place, for which a frame may be declared
 abbrev pub on_due : Schema → (left declared : Option Frame) → Result (Unit {0}) Flaw
 on_due s (Some left) (Some declared) = fits_declared s left declared
 on_due s _ _ = Ok tt
 
--- the edge to a place that an op goes to, where a frame has to be declared
+-- the edge to the target of an op, for which a frame has to be declared
 abbrev pub target_due : Schema → (left declared : Option Frame) → Result (Unit {0}) Flaw
 target_due s (Some left) (Some declared) = fits_declared s left declared
 target_due s (Some left) None = Err flaws.Frame
 target_due s None declared = Ok tt
 
--- the last op does not go on: where an op goes on to a place, a code of `count` ops has that place
+-- a code of `count` ops has the place at which execution continues
 abbrev pub has_next : (count place : ℕ) → Option Frame → Result (Unit {0}) Flaw
 has_next count place (Some left) = if nat_le count place then Err flaws.End else Ok tt
 has_next count place None = Ok tt
 
--- the frame of the place that an op goes to
+-- the frame that is declared for the target of an op
 abbrev pub declared_for : List (Option Frame) → Op → Option Frame
 declared_for declared op = option_and_then (declared_at declared) (target_of op)
 
--- a walk over the places: the frames of those so far, and what the last of their ops leaves for the next place
+-- a walk over the places: the frames of the places so far, and the frame after the last op at the next place
 pub record Walk : Type 0 where
   pub frames : List Frame
   pub next : Option Frame
 
--- one more place, with its frame and what its op leaves for the next place
+-- the walk with another place: its frame, and the frame after its op at the next place
 abbrev pub one_more : Frame → Option Frame → Walk → Walk
 one_more f next walk = record { frames = walk.frames ++ f ∷ []; next = next }
 
@@ -99,7 +99,7 @@ visit s part code declared walk place =
 
 -- ---- all places
 
--- before the first place: the entry leads to it
+-- the walk before the first place
 abbrev pub first_walk : Part → Code → Walk
 first_walk part code = record { frames = []; next = Some (entry_frame part code.locals) }
 

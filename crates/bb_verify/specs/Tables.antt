@@ -3,8 +3,8 @@ use Rattle.std.specs.Prelude.{ℕ, ◌+◌, nat_le, nat_lt, ◌||◌, List, [], 
 use Rattle.std.specs.Prelude.{Ok, Err, if◌then◌else◌}
 use Rattle.bb_basis.specs.Results.{◌>>=◌, map_err}
 use Rattle.bb_schema.specs.Ownership.{owns_any}
-use Rattle.bb_code.specs.Version.{Version}
-use Rattle.bb_code.specs.Version.TheVariants.{One, Two}
+use Rattle.bb_code.specs.declared.version.Version.{Version}
+use Rattle.bb_code.specs.declared.version.Version.TheVariants.{One, Two}
 use Rattle.bb_verify_effect.specs.Schema.{Schema, name_of_label}
 use Rattle.bb_verify_effect.specs.Code.{Code, places}
 use Rattle.bb_verify_effect.specs.FrameEntry.{FrameEntry}
@@ -15,7 +15,7 @@ use Rattle.bb_verify_effect.specs.Op.TheVariants as ops
 use Rattle.bb_verify_effect.specs.Flaw.{Flaw}
 use Rattle.bb_verify_effect.specs.Flaw.TheVariants.{Table}
 use Rattle.bb_verify_effect.specs.VerifyFault.{VerifyFault}
-use Rattle.bb_verify_effect.specs.PartType.{Part}
+use Rattle.bb_verify_effect.specs.declared.part.Part.{Part}
 use Rattle.bb_verify_effect.specs.Each.{each}
 use Rattle.bb_verify_effect.specs.Flaws.{fault_at}
 use Rattle.bb_verify_effect.specs.Part.{units_of}
@@ -24,7 +24,7 @@ use Rattle.bb_verify_effect.specs.Part.{units_of}
 abbrev pub entry : (count number : ℕ) → Result (Unit {0}) Flaw
 entry count number = if nat_lt number count then Ok tt else Err Table
 
--- the class or the label set of a kind is one of the schema
+-- the schema has the class or label set of a kind
 abbrev pub known_kind : Schema → Kind → Result (Unit {0}) Flaw
 known_kind s (Label set) = entry (length s.label_sets) set
 known_kind s (Ref class) = entry (length s.classes) class
@@ -32,7 +32,7 @@ known_kind s (Old class) = entry (length s.classes) class
 known_kind s (Seq class) = entry (length s.classes) class
 known_kind s k = Ok tt
 
--- an entry of a stack is of a kind that says what it is, and its class or its label set is one of the schema
+-- the kind of an entry of the stack is not `Any`, and the schema has its class or label set
 abbrev pub known_entry : Schema → Kind → Result (Unit {0}) Flaw
 known_entry s Any = Err Table
 known_entry s k = known_kind s k
@@ -43,24 +43,24 @@ known_frame s e = do
   _ ← each (known_kind s) e.frame.locals
   each (known_entry s) e.frame.stack
 
--- the places of declared frames rise, from a floor on, and are inside the code
+-- the places of declared frames ascend from a floor, and are inside the code
 unfoldable pub places_rise : (floor count : ℕ) → List FrameEntry → Result (Unit {0}) Flaw
 places_rise floor count [] = Ok tt
 places_rise floor count (e ∷ es) =
     if nat_lt e.place floor || nat_le count e.place then Err Table else places_rise (e.place + 1) count es
 
--- there is a local for each unit that the part begins with
+-- there is a local for each unit that the part starts with
 unfoldable pub enough_locals : Part → Code → Result (Unit {0}) Flaw
 enough_locals part code = if nat_lt code.locals (length (units_of part)) then Err Table else Ok tt
 
--- the declared frames
+-- the declared frames, and the number of locals
 unfoldable pub frames_in_order : Schema → Part → Code → Result (Unit {0}) Flaw
 frames_in_order s part code = do
   _ ← places_rise 0 (length code.ops) code.frames
   _ ← each (known_frame s) code.frames
   enough_locals part code
 
--- a set of the schema has the label
+-- the schema has the label
 abbrev pub known_label : Schema → (set label : ℕ) → Result (Unit {0}) Flaw
 known_label s set label = elim (name_of_label s set label) [ None ↦ Err Table | Some name ↦ Ok tt ]
 
@@ -81,12 +81,12 @@ unfoldable pub table_at : Schema → Code → ℕ → Result (Unit {0}) VerifyFa
 table_at s code place =
     elim (slice_get code.ops place) [ None ↦ Ok tt | Some op ↦ map_err (fault_at place) (in_tables s code op) ]
 
--- a schema with slots that own takes codes of version 2 alone
+-- a schema with owning slots accepts only codes of version 2
 unfoldable pub fit_version : Schema → Version → Result (Unit {0}) Flaw
 fit_version s One = if owns_any s then Err Table else Ok tt
 fit_version s Two = Ok tt
 
--- the version and the tables of a code, and then the operands of all its ops
+-- the version of a code, its tables, and then the operands of all its ops
 unfoldable pub tables : Schema → Part → Code → Result (Unit {0}) VerifyFault
 tables s part code = do
   _ ← map_err (fault_at 0) (fit_version s code.version)

@@ -1,8 +1,8 @@
--- how accepted codes are stored as data that can be told apart
+-- how accepted codes are encoded as data that can be compared
 pub mod Codes
 -- declared frames by their numbers
 pub mod Numbered
--- the places of a code by the number of loops that hold them
+-- the places of a code by depth
 pub mod Depths
--- a pass over the places, and the walk that it is
+-- the pass over the places as a walk
 pub mod Passes

@@ -1,14 +1,14 @@
-//! How far the pass over the places is. It changes from place to place.
+//! The state of the pass over the places. places.rt updates it at every place.
 
 use bb_verify_effect::{Frame, PackedFrames};
 
-/// The frames of the places so far, and what the last of their ops leaves for the next place.
+/// The frames of the places so far, and the frames after the last of their ops.
 #[derive(Drop)]
 pub(crate) struct Pass {
     pub(crate) frames: PackedFrames,
-    /// The frame that the op leaves, where it goes on to the next place, and else one that means nothing.
+    /// The frame after the op if execution may continue at the next place, else unused.
     pub(crate) frame: Frame,
     pub(crate) goes_on: bool,
-    /// The frame that the op leaves for the place that it goes to, if it goes to one.
+    /// The frame at the target of the op, if it may jump.
     pub(crate) target: Option<Frame>,
 }

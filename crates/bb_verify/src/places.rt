@@ -1,4 +1,4 @@
-//! The frames of all places of a code. It is the verifier's last phase.
+//! The last phase of the verifier: the frames of all places of a code.
 
 ghost use Rattle.std.specs.Prelude.{◌≡◌, ◌≤◌, ◌-◌, ◌∷◌, ◌++◌, IfOk, IfSome, None, Ok, Some, length, option_map, replicate, set};
 ghost use Rattle.bb_basis.specs.Results.{Gives, try_fold};
@@ -14,22 +14,22 @@ ghost use Rattle.bb_code.specs.Answers.{map_ok};
 ghost use Rattle.bb_verify.specs.Places.{declared_at, declared_for, declared_frames, entry_frame, frame_at, fits_declared, on_due, target_due, has_next, visit_op, visit, first_walk, frames_of, with_frames};
 ghost use Rattle.bb_verify_effect.specs.Frame.{frame_of};
 
+use crate::nesting::target_of;
 use crate::pass::Pass;
 use bb_verify_effect::{
     ClassId, Code, DeclaredFrame as Declared, Flaw, Frame, FrameEntry, Kind, Locals, Op,
     PackedFrames, Part, Place, Schema, Stack, VerifyFault, effect, frame_weakens,
 };
-use bb_verify_loops::target_of;
 use std::alloc::{AllocError, Global};
 
-// A code, and for each of its places the number of the frame that it declares there.
+// A code, and for each place the number of the frame that is declared there.
 #[derive(Clone, Copy)]
 struct Framed<'a> {
     code: &'a Code,
     declared: &'a [Option<usize>],
 }
 
-// The declared frame of a number, if the code has one of that number.
+// The declared frame of this number, if the code has one.
 fn numbered_frame(code: &Code, number: usize) -> Option<&Declared>
     ensures value { option_map (λ f. frame_of f.now) result ≡ numbered_frame code.now.frames (Some number) }
     ensures few { IfSome result (λ f. (length f.now.locals ≤ LOCAL_LIMIT) × (length f.now.stack ≤ STACK_LIMIT)) }
@@ -42,7 +42,7 @@ fn numbered_frame(code: &Code, number: usize) -> Option<&Declared>
     Some(&frames[number].frame)
 }
 
-// The frame that a code declares for a place.
+// The frame that is declared for a place.
 fn declared_at<'a>(framed: &Framed<'a>, place: usize) -> Option<&'a Declared>
     ensures value { option_map (λ f. frame_of f.now) result ≡ declared_at (frames_by framed.now) place }
     ensures few { IfSome result (λ f. (length f.now.locals ≤ LOCAL_LIMIT) × (length f.now.stack ≤ STACK_LIMIT)) }
@@ -54,7 +54,7 @@ fn declared_at<'a>(framed: &Framed<'a>, place: usize) -> Option<&'a Declared>
     }
 }
 
-// The frame of the place that an op goes to.
+// The frame that is declared for the target of an op.
 fn declared_for<'a>(framed: &Framed<'a>, op: Op) -> Option<&'a Declared>
     ensures { option_map (λ f. frame_of f.now) result ≡ declared_for (frames_by framed.now) op }
 {
@@ -64,7 +64,7 @@ fn declared_for<'a>(framed: &Framed<'a>, op: Op) -> Option<&'a Declared>
     }
 }
 
-// Local 0 is the activation's unit, and nothing is known of the others.
+// Local 0 has the activation's unit; nothing is known of the others.
 fn one_unit(class: ClassId, count: u8) -> Locals
     requires some { 1 ≤ count }
     requires few { count ≤ LOCAL_LIMIT }
@@ -73,7 +73,7 @@ fn one_unit(class: ClassId, count: u8) -> Locals
     Locals::anything(count).with(0, Kind::Old(class))
 }
 
-// Local 0 is the activation's unit, local 1 the event's, and nothing is known of the others.
+// Local 0 has the activation's unit, local 1 the event's; nothing is known of the others.
 fn two_units(class: ClassId, of: ClassId, count: u8) -> Locals
     requires some { 2 ≤ count }
     requires few { count ≤ LOCAL_LIMIT }
@@ -138,7 +138,7 @@ fn put_frame(all: &mut Vec<Option<usize>>, place: usize, number: usize)
     }
 }
 
-// For each place of a code the number of the frame that it declares there.
+// For each place of a code, the number of the frame that is declared there.
 #[tactic(auto, unfolding(crate::specs::Places::declared_frames))]
 fn declared_frames(alloc: Global, code: &Code) -> Result<Vec<Option<usize>>, AllocError>
     ensures { IfOk result (λ v. numbered_frames code.now.frames v.items ≡ declared_frames code.now) }
@@ -148,7 +148,7 @@ fn declared_frames(alloc: Global, code: &Code) -> Result<Vec<Option<usize>>, All
     Ok(all)
 }
 
-// The frame of a place takes the place of the one that the op before left: the declared frame, or else that one.
+// Sets `frame`, which the op before left, to the frame of a place: the declared one, or else unchanged.
 fn arrive(declared: Option<&Declared>, goes_on: bool, frame: &mut Frame) -> Result<(), Flaw>
     requires { IfSome declared (λ f. (length f.now.locals ≤ LOCAL_LIMIT) × (length f.now.stack ≤ STACK_LIMIT)) }
     ensures { map_ok (λ _. frame.new) result
@@ -164,7 +164,7 @@ fn arrive(declared: Option<&Declared>, goes_on: bool, frame: &mut Frame) -> Resu
     }
 }
 
-// What an op leaves may stand where a frame is declared.
+// Checks that the frame after an op is allowed where this one is declared.
 #[tactic(auto, unfolding(crate::specs::Places::fits_declared))]
 fn fits_declared(schema: &Schema, left: &Frame, declared: &Declared) -> Result<(), Flaw>
     ensures { result ≡ fits_declared schema.now left.now (frame_of declared.now) }
@@ -175,7 +175,7 @@ fn fits_declared(schema: &Schema, left: &Frame, declared: &Declared) -> Result<(
     Err(Flaw::Frame)
 }
 
-// The edge to the next place, where a frame may be declared.
+// Checks the edge to the next place, for which a frame may be declared.
 fn on_due(schema: &Schema, left: &Frame, declared: Option<&Declared>) -> Result<(), Flaw>
     ensures { result ≡ on_due schema.now (Some left.now) (option_map (λ f. frame_of f.now) declared.entry) }
 {
@@ -185,7 +185,7 @@ fn on_due(schema: &Schema, left: &Frame, declared: Option<&Declared>) -> Result<
     }
 }
 
-// The edge to a place that an op goes to, where a frame has to be declared.
+// Checks the edge to the target of an op, for which a frame has to be declared.
 fn target_due(
     schema: &Schema,
     left: &Option<Frame>,
@@ -200,7 +200,7 @@ fn target_due(
     }
 }
 
-// The last op does not go on: where an op goes on to a place, a code of `count` ops has that place.
+// Checks that a code of `count` ops has the place at which execution continues.
 fn has_next(count: usize, place: usize, left: &Frame) -> Result<(), Flaw>
     ensures { result ≡ has_next count place (Some left.now) }
 {
@@ -210,7 +210,7 @@ fn has_next(count: usize, place: usize, left: &Frame) -> Result<(), Flaw>
     Ok(())
 }
 
-// No frame is left for the target of an op. Most ops have none, and then nothing of a frame's size is written.
+// Removes the frame of a target. Most ops have none, and then nothing of a frame's size is written.
 fn forget(target: &mut Option<Frame>)
     ensures { target.new ≡ None }
 {
@@ -219,7 +219,7 @@ fn forget(target: &mut Option<Frame>)
     }
 }
 
-// Checks an op at a place, and adds the place to the pass.
+// Checks an op at a place and adds the place to the pass.
 #[tactic(auto, unfolding(crate::specs::Places::visit_op))]
 fn visit_op(
     schema: &Schema,
@@ -258,7 +258,7 @@ fn visit_op(
     target_due(schema, &pass.target, declared_for(framed, op))
 }
 
-// Checks the op at a place, if there is one, and adds the place to the pass.
+// Checks the op at a place, if there is one, and adds the place to the pass. Lack of memory has place 0.
 #[tactic(auto, unfolding(crate::specs::Places::visit))]
 fn visit(
     schema: &Schema,
@@ -300,7 +300,7 @@ fn visit_all(
     Ok(())
 }
 
-/// The frames of all places.
+/// Returns the frames of all places, or the first fault.
 #[tactic(auto, unfolding(crate::specs::Places::frames_of))]
 pub(crate) fn frames_of(
     alloc: Global,

@@ -1,4 +1,4 @@
-//! The tables of a code, and the operands that index them. It is the verifier's first phase.
+//! The first phase of the verifier: the tables of a code, and the operands that index them.
 
 ghost use Rattle.std.specs.Prelude.{◌≡◌};
 ghost use Rattle.bb_verify_effect.specs.Each.{each};
@@ -11,7 +11,7 @@ use bb_verify_effect::{
     Code, Flaw, FrameEntry, Kind, LabelId, LabelSetId, Op, Part, Place, Schema, VerifyFault,
 };
 
-// A table of `count` entries has one of this number.
+// Checks that a table of `count` entries has one of this number.
 fn entry(count: usize, number: usize) -> Result<(), Flaw>
     ensures { result ≡ entry count number }
 {
@@ -21,7 +21,7 @@ fn entry(count: usize, number: usize) -> Result<(), Flaw>
     Err(Flaw::Table)
 }
 
-// The class or the label set of a kind is one of the schema.
+// Checks that the schema has the class or label set of a kind.
 fn known_kind(schema: &Schema, kind: Kind) -> Result<(), Flaw>
     ensures { result ≡ known_kind schema.now kind }
 {
@@ -34,7 +34,7 @@ fn known_kind(schema: &Schema, kind: Kind) -> Result<(), Flaw>
     }
 }
 
-// An entry of a stack is of a kind that says what it is, and its class or its label set is one of the schema.
+// Checks that the kind of an entry of the stack is not `Any`, and that the schema has its class or label set.
 fn known_entry(schema: &Schema, kind: Kind) -> Result<(), Flaw>
     ensures { result ≡ known_entry schema.now kind }
 {
@@ -62,7 +62,7 @@ fn known_entries(schema: &Schema, kinds: &[Kind]) -> Result<(), Flaw>
     Ok(())
 }
 
-// The kinds of a declared frame.
+// Checks the kinds of a declared frame.
 #[tactic(auto, unfolding(crate::specs::Tables::known_frame))]
 fn known_frame(schema: &Schema, entry: &FrameEntry) -> Result<(), Flaw>
     ensures { result ≡ known_frame schema.now entry.now }
@@ -80,7 +80,7 @@ fn known_frames(schema: &Schema, frames: &[FrameEntry]) -> Result<(), Flaw>
     Ok(())
 }
 
-// The places of declared frames rise and are inside a code of `count` ops.
+// Checks that the places of declared frames ascend, and are in a code of `count` ops.
 fn places_rise(count: usize, frames: &[FrameEntry]) -> Result<(), Flaw>
     ensures { result ≡ places_rise 0 count frames.now }
 {
@@ -98,7 +98,7 @@ fn places_rise(count: usize, frames: &[FrameEntry]) -> Result<(), Flaw>
     Ok(())
 }
 
-// There is a local for each unit that the part begins with.
+// Checks that there is a local for each unit that the part starts with.
 #[tactic(auto, unfolding(crate::specs::Tables::enough_locals))]
 fn enough_locals(part: Part, code: &Code) -> Result<(), Flaw>
     ensures { result ≡ enough_locals part code.now }
@@ -109,7 +109,7 @@ fn enough_locals(part: Part, code: &Code) -> Result<(), Flaw>
     Ok(())
 }
 
-// The declared frames.
+// Checks the declared frames, and the number of locals.
 #[tactic(auto, unfolding(crate::specs::Tables::frames_in_order))]
 fn frames_in_order(schema: &Schema, part: Part, code: &Code) -> Result<(), Flaw>
     ensures { result ≡ frames_in_order schema.now part code.now }
@@ -119,7 +119,7 @@ fn frames_in_order(schema: &Schema, part: Part, code: &Code) -> Result<(), Flaw>
     enough_locals(part, code)
 }
 
-// A set of the schema has the label.
+// Checks that the schema has the label.
 fn known_label(schema: &Schema, set: LabelSetId, label: LabelId) -> Result<(), Flaw>
     ensures { result ≡ known_label schema.now set label }
 {
@@ -129,7 +129,7 @@ fn known_label(schema: &Schema, set: LabelSetId, label: LabelId) -> Result<(), F
     }
 }
 
-// The operands of an op name entries of their tables.
+// Checks that the operands of an op name entries of their tables.
 #[tactic(auto, unfolding(crate::specs::Tables::in_tables))]
 fn in_tables(schema: &Schema, code: &Code, op: Op) -> Result<(), Flaw>
     ensures { result ≡ in_tables schema.now code.now op }
@@ -147,7 +147,7 @@ fn in_tables(schema: &Schema, code: &Code, op: Op) -> Result<(), Flaw>
     }
 }
 
-// The operands of the op at a place, if there is one, name entries of their tables.
+// Checks that the operands of the op at a place, if there is one, name entries of their tables.
 #[tactic(auto, unfolding(crate::specs::Tables::table_at))]
 fn table_at(schema: &Schema, code: &Code, place: Place) -> Result<(), VerifyFault>
     ensures { result ≡ table_at schema.now code.now place }
@@ -168,8 +168,8 @@ fn all_in_tables(schema: &Schema, code: &Code) -> Result<(), VerifyFault>
     Ok(())
 }
 
-// A schema with slots that own takes codes of version 2 alone: those of version 1 were made for deletions that take no
-// other unit along.
+// Checks the version: a schema with owning slots accepts only codes of version 2, because codes of version 1 were made
+// for deletions of one unit.
 #[tactic(auto, unfolding(crate::specs::Tables::fit_version))]
 fn fit_version(schema: &Schema, version: Version) -> Result<(), Flaw>
     ensures { result ≡ fit_version schema.now version }
@@ -180,7 +180,7 @@ fn fit_version(schema: &Schema, version: Version) -> Result<(), Flaw>
     }
 }
 
-/// The version and the tables of a code, and then the operands of all its ops.
+/// Checks the version of a code, its tables, and then the operands of all its ops.
 #[tactic(auto, unfolding(crate::specs::Tables::tables))]
 pub(crate) fn check_tables(schema: &Schema, part: Part, code: &Code) -> Result<(), VerifyFault>
     ensures { result ≡ tables schema.now part code.now }

@@ -7,11 +7,11 @@ ghost use Rattle.bb_verify.specs.Facts.{Facts};
 ghost use Rattle.bb_verify_effect.specs.Flaws.{out_of_memory};
 
 use crate::checked::{Checked, counts_of};
+use crate::nesting::{check_jumps, check_loops};
 use crate::places::frames_of;
 use crate::tables::check_tables;
 use bb_exec_lower::lower;
 use bb_verify_effect::{Code, Part, Schema, VerifyFault};
-use bb_verify_loops::{check_jumps, check_loops};
 use std::alloc::Global;
 
 /// Accepts a code for a part of a source, or returns its first fault: of the tables, of the jumps, of the loops, and

@@ -6,11 +6,11 @@ use Rattle.bb_basis.specs.Results.{◌>>=◌, ok_or}
 use Rattle.bb_basis.proofs.ResultLemmas.{bind_ok, guard_ok, ok_or_ok, same_ok}
 use Rattle.bb_schema_classes.specs.declared.kind.Kind.{Kind as SlotKind}
 use Rattle.bb_schema_classes.specs.declared.kind.Link.{Link}
-use Rattle.bb_verify_frame.specs.Schema.{Schema}
-use Rattle.bb_verify_frame.specs.Kind.{Kind}
-use Rattle.bb_verify_frame.specs.Kind.TheVariants.{Int, Text, Bool as Truth, Label, Interval, Ref, Seq}
-use Rattle.bb_verify_frame.specs.Flaw.TheVariants as flaws
-use Rattle.bb_verify_frame.specs.Kinds.{is_same_plain}
+use Rattle.bb_code.specs.Schema.{Schema}
+use Rattle.bb_code.specs.declared.frame.Kind.{Kind}
+use Rattle.bb_code.specs.declared.frame.Kind.TheVariants.{Int, Text, Bool as Truth, Label, Interval, Ref, Seq}
+use Rattle.bb_code.specs.declared.flaw.Flaw.TheVariants as flaws
+use Rattle.bb_verify_effect.specs.Kinds.{is_same_plain}
 use Rattle.bb_verify_effect.specs.Due.{due, label_of, class_of, live, sequence_of, held_in, plain_kind, link_kind, plain_slot, link_slot, single_slot, value_due}
 
 -- a test passed, and what comes behind it is the answer

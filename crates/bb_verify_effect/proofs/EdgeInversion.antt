@@ -3,14 +3,14 @@ use Rattle.std.proofs.Common.{◌≡◌, ℕ, false, List, ◌∷◌, Some, None
 use Rattle.bb_basis.specs.Results.{◌>>=◌}
 use Rattle.bb_basis.proofs.ResultLemmas.{bind_ok, same_ok}
 use Rattle.bb_schema_classes.specs.declared.kind.Link.{Link}
-use Rattle.bb_verify_frame.specs.Schema.{Schema}
-use Rattle.bb_verify_frame.specs.Kind.{Kind}
-use Rattle.bb_verify_frame.specs.Kind.TheVariants.{Int, Bool as Truth, Ref, Seq}
-use Rattle.bb_verify_frame.specs.Flaw.{Flaw}
-use Rattle.bb_verify_frame.specs.declared.frame.Frame.{Frame}
-use Rattle.bb_verify_frame.specs.declared.part.Part.{Part}
-use Rattle.bb_verify_frame.specs.Part.{ends_done, ends_rated, ends_answered}
-use Rattle.bb_verify_frame.specs.Frame.{with_stack, pop, local_at, room, push}
+use Rattle.bb_code.specs.Schema.{Schema}
+use Rattle.bb_code.specs.declared.frame.Kind.{Kind}
+use Rattle.bb_code.specs.declared.frame.Kind.TheVariants.{Int, Bool as Truth, Ref, Seq}
+use Rattle.bb_code.specs.declared.flaw.Flaw.{Flaw}
+use Rattle.bb_verify_effect.specs.declared.frame.Frame.{Frame}
+use Rattle.bb_verify_effect.specs.declared.part.Part.{Part}
+use Rattle.bb_verify_effect.specs.Part.{ends_done, ends_rated, ends_answered}
+use Rattle.bb_verify_effect.specs.Frame.{with_stack, pop, local_at, room, push}
 use Rattle.bb_verify_effect.specs.Due.{due, class_of, sequence_of, link_slot, single_slot}
 use Rattle.bb_verify_effect.specs.Edges.{Edges}
 use Rattle.bb_verify_effect.specs.Effect.{on, either, ended, one, alive, as_class, unless, next_unit, done, rate, decline, answer}

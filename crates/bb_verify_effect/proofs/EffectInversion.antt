@@ -5,18 +5,18 @@ use Rattle.std.proofs.lemmas.Bool.{eqb-true}
 use Rattle.bb_basis.specs.Results.{ok_or}
 use Rattle.bb_basis.proofs.ResultLemmas.{bind_ok, ok_or_ok, same_ok}
 use Rattle.bb_schema_classes.specs.declared.kind.Link.{Link}
-use Rattle.bb_verify_frame.specs.Schema.{Schema, descends}
-use Rattle.bb_verify_frame.specs.Spaces.{allowed}
-use Rattle.bb_verify_frame.specs.Code.{Code}
-use Rattle.bb_verify_frame.specs.Query.{Query}
-use Rattle.bb_verify_frame.specs.Kind.{Kind}
-use Rattle.bb_verify_frame.specs.Kind.TheVariants.{Int, Bool as Truth, Label, Ref, Seq}
-use Rattle.bb_verify_frame.specs.Flaw.TheVariants as flaws
-use Rattle.bb_verify_frame.specs.declared.frame.Frame.{Frame}
-use Rattle.bb_verify_frame.specs.declared.part.Part.{Part}
-use Rattle.bb_verify_frame.specs.Each.{each}
-use Rattle.bb_verify_frame.specs.Part.{writes}
-use Rattle.bb_verify_frame.specs.Frame.{with_stack, with_local, local_at, room, enough, top, without, push}
+use Rattle.bb_code.specs.Schema.{Schema, descends}
+use Rattle.bb_code.specs.Spaces.{allowed}
+use Rattle.bb_code.specs.Code.{Code}
+use Rattle.bb_code.specs.Query.{Query}
+use Rattle.bb_code.specs.declared.frame.Kind.{Kind}
+use Rattle.bb_code.specs.declared.frame.Kind.TheVariants.{Int, Bool as Truth, Label, Ref, Seq}
+use Rattle.bb_code.specs.declared.flaw.Flaw.TheVariants as flaws
+use Rattle.bb_verify_effect.specs.declared.frame.Frame.{Frame}
+use Rattle.bb_verify_effect.specs.declared.part.Part.{Part}
+use Rattle.bb_code.specs.Each.{each}
+use Rattle.bb_verify_effect.specs.Part.{writes}
+use Rattle.bb_verify_effect.specs.Frame.{with_stack, with_local, local_at, room, enough, top, without, push}
 use Rattle.bb_verify_effect.specs.Due.{due, label_of, class_of, live, sequence_of, copy_of, sayable, operands_due, plain_slot}
 use Rattle.bb_verify_effect.specs.Due.{link_slot, value_due, partner_due, space_due, known_space, query_due}
 use Rattle.bb_verify_effect.specs.Effect.{load, store_local, drop_one, turn, combine, eq_label, eq_unit, get, links, find, size}

@@ -1,8 +1,8 @@
 -- Ops that the next op alone follows.
 use Rattle.std.proofs.Common.{◌≡◌, true, None, Result, Ok, Err, refl}
-use Rattle.bb_verify_frame.specs.Answers.{map_ok}
-use Rattle.bb_verify_frame.specs.Flaw.{Flaw}
-use Rattle.bb_verify_frame.specs.declared.frame.Frame.{Frame}
+use Rattle.bb_code.specs.Answers.{map_ok}
+use Rattle.bb_code.specs.declared.flaw.Flaw.{Flaw}
+use Rattle.bb_verify_effect.specs.declared.frame.Frame.{Frame}
 use Rattle.bb_verify_effect.specs.Effect.{on}
 use Rattle.bb_verify_effect.specs.Edges.{edges_of}
 

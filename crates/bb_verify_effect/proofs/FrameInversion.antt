@@ -3,14 +3,14 @@ use Rattle.std.proofs.Common.{◌≡◌, ℕ, false, List, [], ◌∷◌, length
 use Rattle.std.specs.Prelude.{nat_le, nat_lt}
 use Rattle.bb_basis.specs.Results.{◌>>=◌, ok_or}
 use Rattle.bb_basis.proofs.ResultLemmas.{bind_ok, guard_ok, ok_or_ok, same_ok}
-use Rattle.bb_verify_frame.specs.Kind.{Kind}
-use Rattle.bb_verify_frame.specs.Kind.TheVariants.{Ref}
-use Rattle.bb_verify_frame.specs.Flaw.{Flaw}
-use Rattle.bb_verify_frame.specs.Flaw.TheVariants as flaws
-use Rattle.bb_verify_frame.specs.Limits.{STACK_LIMIT}
-use Rattle.bb_verify_frame.specs.declared.frame.Frame.{Frame}
-use Rattle.bb_verify_frame.specs.Stack.{newest}
-use Rattle.bb_verify_frame.specs.Frame.{with_stack, pop, pop_two, enough, room, push}
+use Rattle.bb_code.specs.declared.frame.Kind.{Kind}
+use Rattle.bb_code.specs.declared.frame.Kind.TheVariants.{Ref}
+use Rattle.bb_code.specs.declared.flaw.Flaw.{Flaw}
+use Rattle.bb_code.specs.declared.flaw.Flaw.TheVariants as flaws
+use Rattle.bb_code.specs.declared.parts.TheConstants.{STACK_LIMIT}
+use Rattle.bb_verify_effect.specs.declared.frame.Frame.{Frame}
+use Rattle.bb_verify_effect.specs.Stack.{newest}
+use Rattle.bb_verify_effect.specs.Frame.{with_stack, pop, pop_two, enough, room, push}
 use Rattle.bb_verify_effect.specs.Due.{class_of, live}
 use Rattle.bb_verify_effect.specs.Effect.{pop_live}
 use Rattle.bb_verify_effect.proofs.DueInversion.{live_ok}

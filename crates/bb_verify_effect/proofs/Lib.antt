@@ -7,3 +7,5 @@ pub mod EffectInversion
 pub mod EdgeInversion
 -- what crates above use
 pub mod Laws
+pub mod StackLemmas
+pub mod PackedLemmas

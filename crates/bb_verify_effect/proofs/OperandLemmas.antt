@@ -2,9 +2,9 @@
 use Rattle.std.proofs.Common.{◌≡◌, ℕ, ◌+◌, ◌<◌, ◌≤◌, List, length, drop, get_or, Result, Ok, Err, sym, ap, ◌∙◌, arith, add-one, drop-cons, refl}
 use Rattle.std.proofs.lemmas.List.{drop_all}
 use Rattle.bb_basis.specs.Results.{◌>>=◌}
-use Rattle.bb_verify_frame.specs.Kind.{Kind}
-use Rattle.bb_verify_frame.specs.OperandKind.{OperandKind}
-use Rattle.bb_verify_frame.specs.Flaw.{Flaw}
+use Rattle.bb_code.specs.declared.frame.Kind.{Kind}
+use Rattle.bb_code.specs.OperandKind.{OperandKind}
+use Rattle.bb_code.specs.declared.flaw.Flaw.{Flaw}
 use Rattle.bb_verify_effect.specs.Due.{operand_due, operands_due}
 
 operands-drop : (os : List OperandKind) (ks : List Kind) (i : ℕ) (o : OperandKind) (k : Kind) → i < length os → length os ≡ length ks → operands_due (drop i os) (drop i ks) ≡ (operand_due (get_or os i o) (get_or ks i k) >>= λ _. operands_due (drop (i + 1) os) (drop (i + 1) ks))

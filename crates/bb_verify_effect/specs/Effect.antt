@@ -1,29 +1,30 @@
--- What an op does to the frame of its place, or its flaw (of this project). An op tests, in this order: how many
--- operands there are, and whether the stack has room; their kinds; whether a unit is live where it has to be; its slot;
--- the class of a link; its space; its query; whether the part may change the blackboard; and whether it ends so.
+-- The effect of an op on the frame of its place, or its first flaw (of this project). An op checks, in this order: the
+-- number of operands and the room on the stack; the kinds of the operands; units that have to be live; its slot; the
+-- class of a link; its space; its query, but before the kinds of the query's operands; whether the part may change the
+-- blackboard; whether the part may end with it.
 use Rattle.std.specs.Prelude.{ℕ, length, map, slice_get, Some, None, ◌==◌, Result, Ok, Err, if◌then◌else◌}
 use Rattle.bb_basis.specs.Results.{◌>>=◌, ok_or}
-use Rattle.bb_verify_frame.specs.Schema.{Schema}
-use Rattle.bb_verify_frame.specs.Code.{Code}
-use Rattle.bb_verify_frame.specs.Kind.{Kind}
-use Rattle.bb_verify_frame.specs.Kind.TheVariants.{Int, Text, Bool as Truth, Label, Interval, Ref, Seq}
-use Rattle.bb_verify_frame.specs.Op.{Op}
-use Rattle.bb_verify_frame.specs.Op.TheVariants as ops
+use Rattle.bb_code.specs.Schema.{Schema}
+use Rattle.bb_code.specs.Code.{Code}
+use Rattle.bb_code.specs.declared.frame.Kind.{Kind}
+use Rattle.bb_code.specs.declared.frame.Kind.TheVariants.{Int, Text, Bool as Truth, Label, Interval, Ref, Seq}
+use Rattle.bb_code.specs.declared.op.Op.{Op}
+use Rattle.bb_code.specs.declared.op.Op.TheVariants as ops
 use Rattle.bb_verify_effect.specs.Edges.{Edges}
-use Rattle.bb_verify_frame.specs.Flaw.{Flaw}
-use Rattle.bb_verify_frame.specs.Flaw.TheVariants as flaws
-use Rattle.bb_verify_frame.specs.declared.frame.Frame.{Frame}
-use Rattle.bb_verify_frame.specs.declared.part.Part.{Part}
-use Rattle.bb_verify_frame.specs.Each.{each}
-use Rattle.bb_verify_frame.specs.Part.{writes, ends_done, ends_rated, ends_answered}
-use Rattle.bb_verify_frame.specs.Frame.{pop, pop_two, enough, top, without, room, push, local_at, with_local}
+use Rattle.bb_code.specs.declared.flaw.Flaw.{Flaw}
+use Rattle.bb_code.specs.declared.flaw.Flaw.TheVariants as flaws
+use Rattle.bb_verify_effect.specs.declared.frame.Frame.{Frame}
+use Rattle.bb_verify_effect.specs.declared.part.Part.{Part}
+use Rattle.bb_code.specs.Each.{each}
+use Rattle.bb_verify_effect.specs.Part.{writes, ends_done, ends_rated, ends_answered}
+use Rattle.bb_verify_effect.specs.Frame.{pop, pop_two, enough, top, without, room, push, local_at, with_local}
 use Rattle.bb_verify_effect.specs.Due.{due, label_of, class_of, live, sequence_of, copy_of, sayable, operands_due, plain_slot}
 use Rattle.bb_verify_effect.specs.Due.{link_slot, single_slot, value_due, partner_due, space_due, known_space, query_due}
-use Rattle.bb_verify_frame.specs.Kinds.{struck}
+use Rattle.bb_verify_effect.specs.Kinds.{struck}
 
 -- ---- locals and plain values
 
--- a copy of a local
+-- pushes a copy of a local
 unfoldable pub load : ℕ → Frame → Result Frame Flaw
 load l f = do
   _ ← room f
@@ -40,14 +41,14 @@ drop_one f = do
   k ← pop f
   Ok k.1
 
--- one operand of a kind gives another kind
+-- replaces an operand of kind `from` by a result of kind `to`
 unfoldable pub turn : (from to : Kind) → Frame → Result Frame Flaw
 turn from to f = do
   k ← pop f
   _ ← due from k.0
   push to k.1
 
--- two operands of a kind give another kind
+-- replaces two operands of kind `from` by a result of kind `to`
 unfoldable pub combine : (from to : Kind) → Frame → Result Frame Flaw
 combine from to f = do
   two ← pop_two f
@@ -55,7 +56,7 @@ combine from to f = do
   _ ← due from two.0.1
   push to two.1
 
--- two labels of one set
+-- compares two labels of the same set
 unfoldable pub eq_label : Frame → Result Frame Flaw
 eq_label f = do
   two ← pop_two f
@@ -63,7 +64,7 @@ eq_label f = do
   b ← label_of two.0.1
   if a == b then push Truth two.1 else Err flaws.Kind
 
--- two units, which may be deleted
+-- compares two units, live or old
 unfoldable pub eq_unit : Frame → Result Frame Flaw
 eq_unit f = do
   two ← pop_two f
@@ -73,7 +74,7 @@ eq_unit f = do
 
 -- ---- units and sequences
 
--- the class of the newest entry, which is a unit that is live, and the frame without it
+-- the class of the newest entry, a live unit, and the frame without it
 unfoldable pub pop_live : Frame → Result (ℕ × Frame) Flaw
 pop_live f = do
   k ← pop f
@@ -126,7 +127,7 @@ set_slot s part slot f = do
   _ ← writes part
   Ok two.1
 
--- a link or an unlink
+-- links or unlinks
 unfoldable pub relink : Schema → Part → ℕ → Frame → Result Frame Flaw
 relink s part slot f = do
   two ← pop_two f
@@ -153,7 +154,7 @@ leave s part space f = do
   _ ← writes part
   Ok unit.1
 
--- units that may be the one that was deleted are old from here on
+-- locals and entries that could be the deleted unit, or a unit deleted with it, become old
 unfoldable pub after_delete : Schema → ℕ → Frame → Frame
 after_delete s class f = record { locals = map (struck s class) f.locals; stack = map (struck s class) f.stack }
 
@@ -170,21 +171,21 @@ say part count f = do
   _ ← writes part
   Ok (without count f)
 
--- ---- ops with a place that they go to
+-- ---- ops that may jump
 
--- the next op alone follows
+-- execution continues with the next op only
 abbrev pub on : Result Frame Flaw → Result Edges Flaw
 on after = after >>= λ f. Ok (record { on = Some f; target = None })
 
--- the next op follows, or the one at the place
+-- execution continues with the next op or at the target
 abbrev pub either : Frame → Frame → Edges
 either next there = record { on = Some next; target = Some there }
 
--- the op at the place alone follows
+-- execution continues at the target only
 abbrev pub only_there : Frame → Edges
 only_there f = record { on = None; target = Some f }
 
--- the activation ends
+-- the execution ends
 abbrev pub ended : Edges
 ended = record { on = None; target = None }
 
@@ -247,7 +248,7 @@ answer part f = do
   _ ← ends_answered part
   Ok ended
 
--- ---- each op
+-- ---- all ops
 
 unfoldable pub effect : Schema → Part → Code → Op → Frame → Result Edges Flaw
 effect s part code (ops.PushInt n) f = on (push Int f)

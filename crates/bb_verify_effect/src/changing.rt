@@ -1,15 +1,17 @@
-//! What ops that change the blackboard do to a frame. The effects of ops call it.
+//! The effects of ops that change the blackboard. `effect` calls them.
 
 ghost use Rattle.std.specs.Prelude.{◌≡◌};
-ghost use Rattle.bb_verify_frame.specs.Answers.{map_ok};
+ghost use Rattle.bb_code.specs.Answers.{map_ok};
 ghost use Rattle.bb_verify_effect.specs.Effect.{new_unit, set_slot, relink, enter, leave, after_delete, delete, say};
 
 use crate::due::{
     all_sayable, class_of, known_space, link_slot, live, partner_due, plain_slot, space_due,
     value_due,
 };
+use crate::frame::Frame;
+use crate::part::Part;
 use crate::reading::pop_live;
-use bb_verify_frame::{ClassId, Flaw, Frame, Kind, Part, Schema, SlotId, SpaceId};
+use crate::{ClassId, Flaw, Kind, Schema, SlotId, SpaceId};
 
 #[tactic(auto, unfolding(crate::specs::Effect::new_unit))]
 pub(crate) fn new_unit(part: Part, class: ClassId, frame: &mut Frame) -> Result<(), Flaw>
@@ -38,7 +40,7 @@ pub(crate) fn set_slot(
     Ok(())
 }
 
-/// A link or an unlink.
+/// Links or unlinks.
 #[tactic(auto, unfolding(crate::specs::Effect::relink))]
 pub(crate) fn relink(
     schema: &Schema,
@@ -89,7 +91,7 @@ pub(crate) fn leave(
     Ok(())
 }
 
-// Units that may be the one that was deleted are old from here on.
+// Makes all locals and entries that could be the deleted unit, or a unit deleted with it, old.
 #[tactic(auto, unfolding(crate::specs::Effect::after_delete))]
 fn after_delete(schema: &Schema, deleted: ClassId, frame: &mut Frame)
     ensures { frame.new ≡ after_delete schema.now deleted frame.old }

@@ -1,15 +1,14 @@
-//! The kinds that ops require, and what a schema says of them. The effects of ops call it.
+//! Checks on the operands of ops: their kinds, and what the schema requires. The effects of ops call them.
 
 ghost use Rattle.std.specs.Prelude.{◌≡◌, length};
-ghost use Rattle.bb_verify_frame.specs.Each.{each};
+ghost use Rattle.bb_code.specs.Each.{each};
 ghost use Rattle.bb_verify_effect.specs.Due.{due, label_of, class_of, live, sequence_of, copy_of, sayable, operand_due, operands_due, held_in, plain_kind, link_kind, plain_slot, link_slot, single_slot, value_due, partner_due, space_due, known_space, query_due};
 
+use crate::kind::is_same_plain;
+use crate::{ClassId, Flaw, Kind, LabelSetId, OperandKind, Query, Schema, SlotId, SpaceId};
 use bb_schema_classes::{Kind as SlotKind, Link};
-use bb_verify_frame::{
-    ClassId, Flaw, Kind, LabelSetId, OperandKind, Query, Schema, SlotId, SpaceId, is_same_plain,
-};
 
-/// The operand is of this kind, which is neither that of a unit nor that of a sequence.
+/// Checks that the operand has this kind, which is not the kind of a unit or a sequence.
 pub(crate) fn due(kind: Kind, operand: Kind) -> Result<(), Flaw>
     ensures { result ≡ due kind operand }
 {
@@ -19,7 +18,7 @@ pub(crate) fn due(kind: Kind, operand: Kind) -> Result<(), Flaw>
     Err(Flaw::Kind)
 }
 
-/// The set of a label.
+/// Returns the set of a label.
 pub(crate) fn label_of(kind: Kind) -> Result<LabelSetId, Flaw>
     ensures { result ≡ label_of kind }
 {
@@ -29,7 +28,7 @@ pub(crate) fn label_of(kind: Kind) -> Result<LabelSetId, Flaw>
     }
 }
 
-/// The class of a unit, live or old.
+/// Returns the class of a unit, live or old.
 pub(crate) fn class_of(kind: Kind) -> Result<ClassId, Flaw>
     ensures { result ≡ class_of kind }
 {
@@ -40,7 +39,7 @@ pub(crate) fn class_of(kind: Kind) -> Result<ClassId, Flaw>
     }
 }
 
-/// The unit is live.
+/// Checks that a unit is live. Other kinds pass.
 pub(crate) fn live(kind: Kind) -> Result<(), Flaw>
     ensures { result ≡ live kind }
 {
@@ -50,7 +49,7 @@ pub(crate) fn live(kind: Kind) -> Result<(), Flaw>
     }
 }
 
-/// The class of the units of a sequence.
+/// Returns the class of the units of a sequence.
 pub(crate) fn sequence_of(kind: Kind) -> Result<ClassId, Flaw>
     ensures { result ≡ sequence_of kind }
 {
@@ -60,7 +59,7 @@ pub(crate) fn sequence_of(kind: Kind) -> Result<ClassId, Flaw>
     }
 }
 
-/// Anything that is known, but no sequence.
+/// Returns the kind if a value of it can be copied: it is known and not a sequence.
 pub(crate) fn copy_of(kind: Kind) -> Result<Kind, Flaw>
     ensures { result ≡ copy_of kind }
 {
@@ -71,7 +70,7 @@ pub(crate) fn copy_of(kind: Kind) -> Result<Kind, Flaw>
     }
 }
 
-/// Anything but a sequence.
+/// Checks that the kind is not a sequence.
 pub(crate) fn sayable(kind: Kind) -> Result<(), Flaw>
     ensures { result ≡ sayable kind }
 {
@@ -81,7 +80,7 @@ pub(crate) fn sayable(kind: Kind) -> Result<(), Flaw>
     }
 }
 
-/// None of the kinds is that of a sequence.
+/// Checks that none of the kinds is a sequence.
 pub(crate) fn all_sayable(kinds: &[Kind]) -> Result<(), Flaw>
     ensures { result ≡ each sayable kinds.now }
 {
@@ -91,7 +90,7 @@ pub(crate) fn all_sayable(kinds: &[Kind]) -> Result<(), Flaw>
     Ok(())
 }
 
-/// An operand of a query.
+/// Checks an operand of a query.
 pub(crate) fn operand_due(operand: OperandKind, kind: Kind) -> Result<(), Flaw>
     ensures { result ≡ operand_due operand kind }
 {
@@ -101,7 +100,7 @@ pub(crate) fn operand_due(operand: OperandKind, kind: Kind) -> Result<(), Flaw>
     }
 }
 
-/// An operand for each kind.
+/// Checks the operands of a query, one for each kind.
 pub(crate) fn operands_due(operands: &[OperandKind], kinds: &[Kind]) -> Result<(), Flaw>
     requires { length operands.now ≡ length kinds.now }
     ensures { result ≡ operands_due operands.now kinds.now }
@@ -112,7 +111,7 @@ pub(crate) fn operands_due(operands: &[OperandKind], kinds: &[Kind]) -> Result<(
     Ok(())
 }
 
-/// What a slot of a class holds, if it is one of the class.
+/// Returns what a slot holds, or `None` if the class does not have the slot.
 #[tactic(auto, unfolding(crate::specs::Due::held_in))]
 pub(crate) fn held_in(schema: &Schema, class: ClassId, slot: SlotId) -> Option<SlotKind>
     ensures { result ≡ held_in schema.now class slot }
@@ -126,7 +125,7 @@ pub(crate) fn held_in(schema: &Schema, class: ClassId, slot: SlotId) -> Option<S
     Some(schema.kind(slot))
 }
 
-/// The kind of what an ordinary slot holds.
+/// Returns the kind of the values of an ordinary slot, or `None` for a link slot.
 pub(crate) fn plain_kind(held: SlotKind) -> Option<Kind>
     ensures { result ≡ plain_kind held }
 {
@@ -149,7 +148,7 @@ pub(crate) fn link_kind(held: SlotKind) -> Option<Link>
     }
 }
 
-/// What an ordinary slot of a class holds.
+/// Returns the kind of the values of an ordinary slot. `Flaw::Slot`: the class has no such slot, or it is a link slot.
 #[tactic(auto, unfolding(crate::specs::Due::plain_slot))]
 pub(crate) fn plain_slot(schema: &Schema, class: ClassId, slot: SlotId) -> Result<Kind, Flaw>
     ensures { result ≡ plain_slot schema.now class slot }
@@ -158,7 +157,7 @@ pub(crate) fn plain_slot(schema: &Schema, class: ClassId, slot: SlotId) -> Resul
     plain_kind(held).ok_or(Flaw::Slot)
 }
 
-/// Where a link slot of a class leads.
+/// Returns the link of a link slot. `Flaw::Slot`: the class has no such slot, or it is not a link slot.
 #[tactic(auto, unfolding(crate::specs::Due::link_slot))]
 pub(crate) fn link_slot(schema: &Schema, class: ClassId, slot: SlotId) -> Result<Link, Flaw>
     ensures { result ≡ link_slot schema.now class slot }
@@ -167,7 +166,7 @@ pub(crate) fn link_slot(schema: &Schema, class: ClassId, slot: SlotId) -> Result
     link_kind(held).ok_or(Flaw::Slot)
 }
 
-/// Where a singular link slot of a class leads.
+/// Returns the link of a singular link slot; `Flaw::Slot` as for `link_slot`, and if the slot is plural.
 #[tactic(auto, unfolding(crate::specs::Due::single_slot))]
 pub(crate) fn single_slot(schema: &Schema, class: ClassId, slot: SlotId) -> Result<Link, Flaw>
     ensures { result ≡ single_slot schema.now class slot }
@@ -179,7 +178,7 @@ pub(crate) fn single_slot(schema: &Schema, class: ClassId, slot: SlotId) -> Resu
     Ok(link)
 }
 
-/// The value for an ordinary slot: where the slot is not right, it may have any kind.
+/// Checks the kind of a value for an ordinary slot. If `plain_slot` finds a flaw, any kind passes.
 #[tactic(auto, unfolding(crate::specs::Due::value_due))]
 pub(crate) fn value_due(
     schema: &Schema,
@@ -195,7 +194,7 @@ pub(crate) fn value_due(
     }
 }
 
-/// Units of the class are partners by the link.
+/// Checks that units of the class can be partners by a link to class `to`.
 #[tactic(auto, unfolding(crate::specs::Due::partner_due))]
 pub(crate) fn partner_due(schema: &Schema, class: ClassId, to: ClassId) -> Result<(), Flaw>
     ensures { result ≡ partner_due schema.now class to }
@@ -206,7 +205,7 @@ pub(crate) fn partner_due(schema: &Schema, class: ClassId, to: ClassId) -> Resul
     Err(Flaw::LinkClass)
 }
 
-/// Units of the class may enter the space.
+/// Checks that units of the class may enter the space.
 #[tactic(auto, unfolding(crate::specs::Due::space_due))]
 pub(crate) fn space_due(schema: &Schema, space: SpaceId, class: ClassId) -> Result<(), Flaw>
     ensures { result ≡ space_due schema.now space class }
@@ -217,7 +216,7 @@ pub(crate) fn space_due(schema: &Schema, space: SpaceId, class: ClassId) -> Resu
     Err(Flaw::Space)
 }
 
-/// The space is there.
+/// Checks that the space exists.
 #[tactic(auto, unfolding(crate::specs::Due::known_space))]
 pub(crate) fn known_space(schema: &Schema, space: SpaceId) -> Result<(), Flaw>
     ensures { result ≡ known_space schema.now space }
@@ -228,7 +227,7 @@ pub(crate) fn known_space(schema: &Schema, space: SpaceId) -> Result<(), Flaw>
     Err(Flaw::Space)
 }
 
-/// The query fits.
+/// Checks that the query fits the schema.
 #[tactic(auto, unfolding(crate::specs::Due::query_due))]
 pub(crate) fn query_due(schema: &Schema, query: &Query) -> Result<(), Flaw>
     ensures { result ≡ query_due schema.now query.now }

@@ -1,20 +1,22 @@
-//! What an op does to the frame of its place. The pass over the places calls it.
+//! The effect of every op. The verifier's pass over the places calls it.
 
 ghost use Rattle.std.specs.Prelude.{◌≡◌, None};
-ghost use Rattle.bb_verify_frame.specs.Answers.{map_ok};
+ghost use Rattle.bb_code.specs.Answers.{map_ok};
 ghost use Rattle.bb_verify_effect.specs.Edges.{edges_of};
 ghost use Rattle.bb_verify_effect.specs.Effect.{effect};
 
 use crate::changing::{delete, enter, leave, new_unit, relink, say, set_slot};
+use crate::frame::Frame;
 use crate::jumping::{
     alive, answer, as_class, decline, done, next_unit, on, one, only_there, rate, unless,
 };
+use crate::part::Part;
 use crate::plain::{combine, drop_one, eq_label, eq_unit, load, store_local, turn};
 use crate::reading::{find, get, links, size};
-use bb_verify_frame::{Code, Flaw, Frame, Kind, Op, Part, Schema};
+use crate::{Code, Flaw, Kind, Op, Schema};
 
-/// Changes the frame as an op does, and returns whether the next op may come. Where the op goes to a place, `target`
-/// gets the frame there.
+/// Changes the frame as an op does, and returns whether execution may continue with the next op. If the op may jump,
+/// `target` is set to the frame at the target. An error is the op's first flaw.
 #[tactic(auto, unfolding(crate::specs::Effect::effect), using(crate::proofs::EffectLemmas::on_is))]
 pub fn effect(
     schema: &Schema,

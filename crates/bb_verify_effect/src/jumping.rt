@@ -1,15 +1,17 @@
-//! What ops that go to a place, or end the activation, do to a frame. The effects of ops call it.
+//! The effects of ops that may jump, and of those that end the execution. `effect` calls them.
 
 ghost use Rattle.std.specs.Prelude.{◌≡◌, None, Ok, true};
-ghost use Rattle.bb_verify_frame.specs.Answers.{map_ok};
+ghost use Rattle.bb_code.specs.Answers.{map_ok};
 ghost use Rattle.bb_verify_effect.specs.Edges.{edges_of};
 ghost use Rattle.bb_verify_effect.specs.Effect.{only_there, one, alive, as_class, unless, next_unit, done, rate, decline, answer};
 
 use crate::due::{class_of, due, sequence_of, single_slot};
+use crate::frame::Frame;
+use crate::part::Part;
 use crate::reading::pop_live;
-use bb_verify_frame::{ClassId, Flaw, Frame, Kind, LocalId, Part, Schema, SlotId};
+use crate::{ClassId, Flaw, Kind, LocalId, Schema, SlotId};
 
-/// The next op alone follows, where the frame was changed without a flaw.
+/// Continues with the next op only, if the frame was changed without a flaw.
 pub(crate) fn on(done: Result<(), Flaw>) -> Result<bool, Flaw>
     ensures { result ≡ map_ok (λ _. true) done }
 {
@@ -79,7 +81,7 @@ pub(crate) fn next_unit(
     on(frame.push(Kind::Ref(class)))
 }
 
-/// The op at the place alone follows.
+/// Continues at the target only.
 pub(crate) fn only_there(frame: &Frame, target: &mut Option<Frame>) -> Result<bool, Flaw>
     ensures { map_ok (edges_of frame.now target.new) result ≡ Ok (only_there frame.now) }
 {

@@ -1,15 +1,37 @@
-//! What each op of a code does to the frame at its place, or its flaw.
+//! Frames, and the effect of each op on one.
+//!
+//! A frame is what the verifier knows before an op: the kind of each local and of each entry of the stack. `effect`
+//! changes a frame as an op does, or returns the op's first flaw. `frame_weakens` decides whether a frame is allowed
+//! where another is declared.
+//!
+//! bb_verify computes the frame of each place with it, bb_exec_lower reads these frames, and bb_diag computes them
+//! again for its messages. The compiler uses kinds, parts and `mark_stale`. Callers rely on: `effect` is exactly the
+//! definition of specs/Effect.antt, flaws included.
 #![tactic(auto)]
 
 mod changing;
 mod due;
 mod effects;
+mod frame;
+mod frame_view;
 mod jumping;
+mod kind;
+mod locals;
+mod packed_frames;
+mod part;
 mod plain;
 mod reading;
+mod stack;
 
-pub use bb_verify_frame::{
-    ClassId, Code, DeclaredFrame, Flaw, Frame, FrameEntry, Kind, LabelId, LabelSetId, Locals, Op,
-    PackedFrames, Part, Place, Schema, Stack, VerifyFault, frame_weakens,
+pub use bb_code::{
+    ClassId, Code, Flaw, Frame as DeclaredFrame, FrameEntry, Kind, LabelId, LabelSetId, LocalId,
+    Op, OperandKind, Place, Query, Schema, SlotId, SpaceId, VerifyFault,
 };
 pub use effects::effect;
+pub use frame::Frame;
+pub use frame_view::FrameView;
+pub use kind::{frame_weakens, is_same_plain, mark_stale};
+pub use locals::Locals;
+pub use packed_frames::PackedFrames;
+pub use part::Part;
+pub use stack::Stack;

@@ -1,13 +1,14 @@
-//! What ops on locals and plain values do to a frame. The effects of ops call it.
+//! The effects of ops on locals and plain values. `effect` calls them.
 
 ghost use Rattle.std.specs.Prelude.{◌≡◌};
-ghost use Rattle.bb_verify_frame.specs.Answers.{map_ok};
+ghost use Rattle.bb_code.specs.Answers.{map_ok};
 ghost use Rattle.bb_verify_effect.specs.Effect.{load, store_local, drop_one, turn, combine, eq_label, eq_unit};
 
 use crate::due::{class_of, copy_of, due, label_of};
-use bb_verify_frame::{Flaw, Frame, Kind, LocalId};
+use crate::frame::Frame;
+use crate::{Flaw, Kind, LocalId};
 
-/// A copy of a local.
+/// Pushes a copy of a local.
 #[tactic(auto, unfolding(crate::specs::Effect::load))]
 pub(crate) fn load(local: LocalId, frame: &mut Frame) -> Result<(), Flaw>
     ensures { map_ok (λ _. frame.new) result ≡ load local frame.old }
@@ -34,7 +35,7 @@ pub(crate) fn drop_one(frame: &mut Frame) -> Result<(), Flaw>
     Ok(())
 }
 
-/// One operand of a kind gives another kind.
+/// Replaces an operand of kind `from` by a result of kind `to`.
 #[tactic(auto, unfolding(crate::specs::Effect::turn))]
 pub(crate) fn turn(from: Kind, to: Kind, frame: &mut Frame) -> Result<(), Flaw>
     ensures { map_ok (λ _. frame.new) result ≡ turn from to frame.old }
@@ -44,7 +45,7 @@ pub(crate) fn turn(from: Kind, to: Kind, frame: &mut Frame) -> Result<(), Flaw>
     frame.push(to)
 }
 
-/// Two operands of a kind give another kind.
+/// Replaces two operands of kind `from` by a result of kind `to`.
 #[tactic(auto, unfolding(crate::specs::Effect::combine))]
 pub(crate) fn combine(from: Kind, to: Kind, frame: &mut Frame) -> Result<(), Flaw>
     ensures { map_ok (λ _. frame.new) result ≡ combine from to frame.old }
@@ -55,7 +56,7 @@ pub(crate) fn combine(from: Kind, to: Kind, frame: &mut Frame) -> Result<(), Fla
     frame.push(to)
 }
 
-/// Two labels of one set.
+/// Compares two labels of the same set.
 #[tactic(auto, unfolding(crate::specs::Effect::eq_label))]
 pub(crate) fn eq_label(frame: &mut Frame) -> Result<(), Flaw>
     ensures { map_ok (λ _. frame.new) result ≡ eq_label frame.old }
@@ -69,7 +70,7 @@ pub(crate) fn eq_label(frame: &mut Frame) -> Result<(), Flaw>
     Err(Flaw::Kind)
 }
 
-/// Two units, which may be deleted.
+/// Compares two units, live or old.
 #[tactic(auto, unfolding(crate::specs::Effect::eq_unit))]
 pub(crate) fn eq_unit(frame: &mut Frame) -> Result<(), Flaw>
     ensures { map_ok (λ _. frame.new) result ≡ eq_unit frame.old }

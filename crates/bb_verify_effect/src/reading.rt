@@ -1,13 +1,14 @@
-//! What ops that read the blackboard do to a frame. The effects of ops call it.
+//! The effects of ops that read the blackboard. `effect` calls them.
 
 ghost use Rattle.std.specs.Prelude.{◌≡◌};
-ghost use Rattle.bb_verify_frame.specs.Answers.{map_ok};
+ghost use Rattle.bb_code.specs.Answers.{map_ok};
 ghost use Rattle.bb_verify_effect.specs.Effect.{pop_live, get, links, find, size};
 
 use crate::due::{class_of, link_slot, live, operands_due, plain_slot, query_due, sequence_of};
-use bb_verify_frame::{ClassId, Code, Flaw, Frame, Kind, Schema, SlotId};
+use crate::frame::Frame;
+use crate::{ClassId, Code, Flaw, Kind, Schema, SlotId};
 
-/// Pops the newest entry, which is a unit that is live, and returns its class.
+/// Pops a live unit and returns its class.
 #[tactic(auto, unfolding(crate::specs::Effect::pop_live))]
 pub(crate) fn pop_live(frame: &mut Frame) -> Result<ClassId, Flaw>
     ensures { map_ok (λ class. (class, frame.new)) result ≡ pop_live frame.old }
@@ -18,7 +19,7 @@ pub(crate) fn pop_live(frame: &mut Frame) -> Result<ClassId, Flaw>
     Ok(class)
 }
 
-/// The value of an ordinary slot.
+/// Replaces a unit by the value of an ordinary slot.
 #[tactic(auto, unfolding(crate::specs::Effect::get))]
 pub(crate) fn get(schema: &Schema, slot: SlotId, frame: &mut Frame) -> Result<(), Flaw>
     ensures { map_ok (λ _. frame.new) result ≡ get schema.now slot frame.old }
@@ -28,7 +29,7 @@ pub(crate) fn get(schema: &Schema, slot: SlotId, frame: &mut Frame) -> Result<()
     frame.push(held)
 }
 
-/// The partners by a link slot.
+/// Replaces a unit by its partners by a link slot.
 #[tactic(auto, unfolding(crate::specs::Effect::links))]
 pub(crate) fn links(schema: &Schema, slot: SlotId, frame: &mut Frame) -> Result<(), Flaw>
     ensures { map_ok (λ _. frame.new) result ≡ links schema.now slot frame.old }
@@ -38,7 +39,7 @@ pub(crate) fn links(schema: &Schema, slot: SlotId, frame: &mut Frame) -> Result<
     frame.push(Kind::Seq(link.to))
 }
 
-/// The units that a query finds.
+/// Replaces the operands of a query by the units that it finds.
 #[tactic(auto, unfolding(crate::specs::Effect::find))]
 pub(crate) fn find(schema: &Schema, code: &Code, query: u16, frame: &mut Frame) -> Result<(), Flaw>
     ensures { map_ok (λ _. frame.new) result ≡ find schema.now code.now query frame.old }
@@ -55,7 +56,7 @@ pub(crate) fn find(schema: &Schema, code: &Code, query: u16, frame: &mut Frame) 
     frame.push(Kind::Seq(query.class))
 }
 
-/// The number of units that were found for a sequence.
+/// Replaces a sequence by the number of its units.
 #[tactic(auto, unfolding(crate::specs::Effect::size))]
 pub(crate) fn size(frame: &mut Frame) -> Result<(), Flaw>
     ensures { map_ok (λ _. frame.new) result ≡ size frame.old }

@@ -1,4 +1,4 @@
-//! Why the program has no answer.
+//! Why the program has no answer. `main` prints it.
 
 use bb_code::CodeFault;
 use bb_code_asm::AsmFault;
@@ -9,19 +9,19 @@ use thiserror::Error;
 /// What is wrong with the input, or with the schema.
 #[derive(Debug, Drop, Error)]
 pub(crate) enum Fault {
-    /// The text is no code.
+    /// The text is not a code.
     #[error("{0}")]
     Text(AsmFault),
     /// The input is not pairs of hex digits.
     #[error("the input is not pairs of hex digits")]
     Hex,
-    /// The bytes are no code.
+    /// The bytes are not a code.
     #[error("{0}")]
     Code(CodeFault),
     /// The schema can't be read.
     #[error("the file of the schema can't be read")]
     File,
-    /// The document is no schema.
+    /// The document is not a schema.
     #[error("the schema is refused: {0}")]
     Schema(SchemaFault),
     /// Memory ran out.

@@ -1,4 +1,4 @@
-//! Codes as text and as hex, for people who write bundles.
+//! Converts codes between text and hex, and lists them, for people who write bundles.
 #![tactic(auto)]
 
 mod fault;
@@ -24,7 +24,7 @@ Standard input is the code. Status 1: it is none; 2: the words on the command li
 enum Task<'a> {
     Hex,
     Text,
-    // A listing, with the file of a schema.
+    // A listing, with the file of a schema if one is named.
     List(Option<&'a str>),
 }
 
@@ -38,7 +38,7 @@ fn task_of<'a>(words: &[&'a str]) -> Option<Task<'a>> {
     }
 }
 
-// The code that hex digits spell.
+// Returns the code that hex digits spell.
 fn code_of_hex(alloc: Global, digits: &str) -> Result<Code, Fault> {
     let Ok(bytes) = hex::decode(alloc, digits.trim()) else {
         return Err(Fault::Hex);
@@ -46,7 +46,7 @@ fn code_of_hex(alloc: Global, digits: &str) -> Result<Code, Fault> {
     Ok(Code::decode(alloc, &bytes)?)
 }
 
-// The code that hex digits spell, if the input begins with those of each code, or else the code of a text.
+// Returns the code that hex digits spell, if the input begins as the digits of every code do, else the code of a text.
 fn code_of_either(alloc: Global, input: &str) -> Result<Code, Fault> {
     if input.trim().starts_with("424243") {
         code_of_hex(alloc, input)
@@ -61,7 +61,7 @@ fn hex_of(alloc: Global, code: &Code) -> Result<String, Fault> {
     Ok(line)
 }
 
-// The schema of a file, if one is named.
+// Reads the schema of a file, if one is named.
 fn schema_of<R: Files + AllocGlobal>(rt: &R, file: Option<&str>) -> Result<Option<Schema>, Fault> {
     let Some(file) = file else {
         return Ok(None);
@@ -72,7 +72,7 @@ fn schema_of<R: Files + AllocGlobal>(rt: &R, file: Option<&str>) -> Result<Optio
     Ok(Some(Schema::read(rt.alloc(), &text)?))
 }
 
-// What a task makes of the input.
+// Returns the output of a task for the input.
 fn answer<R: Files + AllocGlobal>(rt: &R, task: Task<'_>, input: &str) -> Result<String, Fault> {
     let alloc = rt.alloc();
     match task {

@@ -1,9 +1,9 @@
--- How an agenda is stored as data that can be told apart.
+-- How an agenda is encoded as data that can be told apart.
 use Rattle.std.specs.Prelude.{◌≡◌, ℕ, ℤ, Bool, List, Option, Some, None, refl}
 use Rattle.std.specs.Coded.{Coded, code_by, coded×, coded_ℕ, coded_ℤ, coded_bool, coded_list, coded_option}
-use Rattle.bb_agenda_foci.specs.contracts.steering.Steering as steerings
-use Rattle.bb_agenda_foci.specs.declared.activation.Activation.{Activation}
-use Rattle.bb_agenda_foci.specs.Foci.{Steered}
+use Rattle.bb_agenda.specs.contracts.focusing.steering.Steering as steerings
+use Rattle.bb_agenda.specs.declared.focusing.activation.Activation.{Activation}
+use Rattle.bb_agenda.specs.focusing.Foci.{Steered}
 use Rattle.bb_agenda.specs.Agenda.{Agenda, Entry, pending, executed, obviated}
 
 abbrev activation_code : Coded Activation
@@ -12,7 +12,7 @@ activation_code =
     (λ a. (a.number, (a.source, (a.unit, a.base))))
     (λ p. record { number = p.0; source = p.1.0; unit = p.1.1.0; base = p.1.1.1 }) (λ _. refl)
 
--- what became of an activation, `None` where it was obviated
+-- what became of an activation; `None` if it was obviated
 abbrev outcome : Entry → Option (Option Activation)
 outcome (pending a) = Some (Some a)
 outcome executed = Some None

@@ -1,10 +1,10 @@
--- How what is pending is found by its number, its source and its unit. No public clause cites it.
+-- How pending activations are found by number, source and unit. No public clause cites it.
 use Rattle.std.specs.Prelude.{◌≡◌, ℕ, Bool, ◌==◌, List, map, filter}
 use Rattle.std.specs.List.{AllByRecursion}
 use Rattle.std.specs.Map.{values_of}
 use Rattle.std.specs.BTreeMap.{BTreeMap}
 use Rattle.std.specs.BTreeSet.{BTreeSet}
-use Rattle.bb_agenda_foci.specs.declared.activation.Activation.{Activation}
+use Rattle.bb_agenda.specs.declared.focusing.activation.Activation.{Activation}
 use Rattle.bb_agenda.specs.declared.lists.Lists.{Lists}
 use Rattle.bb_agenda.specs.Agenda.{number_of}
 use Rattle.bb_agenda.specs.Fits.{RisesBy}
@@ -29,14 +29,14 @@ abbrev pub AreListed : (Activation → ℕ) → List Activation → BTreeMap ℕ
 AreListed key activations lists = (k : ℕ) → listed lists k ≡ map number_of (filter (has_key key k) activations)
 
 pub record AreFiled (activations : List Activation) (numbers : List ℕ) (lists : Lists) : Type 0 where
-  -- the numbers of the activations rise
+  -- the numbers of the activations ascend
   pub rising : RisesBy number_of activations
-  -- the numbers are those of the activations
+  -- the numbers are the numbers of the activations
   pub numbered : numbers ≡ map number_of activations
   pub by_source : AreListed source_of activations lists.by_source
   pub by_unit : AreListed unit_of activations lists.by_unit
 
--- each activation is kept under its number
+-- each activation is stored under its number
 abbrev pub AreKeyed : List (ℕ × Activation) → Type 0
 AreKeyed entries = AllByRecursion (λ e. e.0 ≡ e.1.number) entries
 

@@ -1,4 +1,4 @@
--- Sets of numbers as bits of words, a word for each 64 numbers.
+-- Sets of numbers as bits of words, one word per 64 numbers.
 use Rattle.std.specs.Prelude.{◌==◌, ◌/◌, ◌%◌, ℕ, Bool, false, List}
 use Rattle.std.specs.Int.{bit_at}
 use Rattle.std.specs.Map.{lookup}

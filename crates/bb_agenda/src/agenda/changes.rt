@@ -1,4 +1,4 @@
-//! What changes an agenda. Each change is refused once memory was refused to one before it.
+//! The changes of an agenda. Once memory was refused to a change, every later change is refused.
 
 ghost use Rattle.std.specs.Prelude.{◌≡◌, IsErr, IfErr, IsTrue, OnOk, OnErr, Err, true, false, if◌then◌else◌};
 ghost use Rattle.bb_basis.specs.Results.{Gives};
@@ -7,13 +7,13 @@ ghost use Rattle.bb_agenda.specs.Changes.{with_focus, without_focus, added_numbe
 
 use crate::agenda::Agenda;
 use crate::fault::AddFault;
-use bb_agenda_foci::Focus;
+use crate::focusing::Focus;
 use bb_basis::Memory;
 use bb_schema::UnitId;
 use std::alloc::AllocError;
 
 impl Agenda {
-    // Refuses a change, where memory was refused to one before.
+    // Refuses a change if memory was refused to an earlier one.
     fn guard(&self) -> Result<(), Memory>
         ensures ok { OnOk result (self.now.refused ≡ false) }
         ensures err { OnErr result (self.now.refused ≡ true) }
@@ -24,7 +24,7 @@ impl Agenda {
         Ok(())
     }
 
-    // Keeps whether memory was refused to a change.
+    // Records whether memory was refused to a change.
     fn keep(&mut self, refused: bool)
         ensures { self.new ≡ (if refused then when_refused self.old else self.old) }
     {
@@ -33,8 +33,9 @@ impl Agenda {
         }
     }
 
-    /// Adds an activation under the next number and returns that. `Full` changes nothing: `PENDING_LIMIT` are pending,
-    /// or each number up to `NUMBER_LIMIT` was given. `Memory`: this change was refused, or one before it.
+    /// Adds an activation under the next number and returns that number. `Full` changes nothing: `PENDING_LIMIT` are
+    /// pending, or every number up to `NUMBER_LIMIT` was given. `Memory`: memory was refused to this change or an
+    /// earlier one.
     pub fn add(&mut self, source: u16, unit: UnitId, base: i64) -> Result<u64, AddFault>
         ensures number { Gives AddFault.Memory (λ number. number) result (added_number self.old) }
         ensures added { OnOk result (self.new ≡ with_activation self.old source unit base) }
@@ -47,8 +48,8 @@ impl Agenda {
         added
     }
 
-    /// The pending activation of a number is obviated, so it is no longer pending; a number of no pending activation
-    /// changes nothing. `Memory`: this change was refused, or one before it.
+    /// Obviates the pending activation with a number: it is no longer pending. Changes nothing if no pending activation
+    /// has the number. `Memory`: memory was refused to this change or an earlier one.
     pub fn obviate(&mut self, number: u64) -> Result<(), Memory>
         ensures ok { OnOk result (self.new ≡ with_obviated self.old number) }
         ensures err { OnErr result (self.new ≡ when_refused self.old) }
@@ -60,8 +61,8 @@ impl Agenda {
         changed
     }
 
-    /// The pending activation of a number is executed now, so it is no longer pending; a number of no pending
-    /// activation changes nothing. `Memory`: a change before this one was refused.
+    /// Marks the pending activation with a number as executed: it is no longer pending. Changes nothing if no pending
+    /// activation has the number. `Memory`: memory was refused to an earlier change.
     pub fn executed(&mut self, number: u64) -> Result<(), Memory>
         ensures ok { OnOk result (self.new ≡ with_executed self.old number) }
         ensures err { OnErr result (self.new ≡ when_refused self.old) }
@@ -72,8 +73,8 @@ impl Agenda {
         Ok(())
     }
 
-    /// The pending activation of a number gets another base; a number of no pending activation changes nothing.
-    /// `Memory`: this change was refused, or one before it.
+    /// Gives the pending activation with a number another base. Changes nothing if no pending activation has the
+    /// number. `Memory`: memory was refused to this change or an earlier one.
     pub fn rerate(&mut self, number: u64, base: i64) -> Result<(), Memory>
         ensures ok { OnOk result (self.new ≡ with_base self.old number base) }
         ensures err { OnErr result (self.new ≡ when_refused self.old) }
@@ -85,8 +86,8 @@ impl Agenda {
         changed
     }
 
-    /// The focus of a unit is now this one, in place of the one that it had. `Memory`: this change was refused, or one
-    /// before it.
+    /// Sets the focus of a unit, replacing any that it had. `Memory`: memory was refused to this change or an earlier
+    /// one.
     pub fn focus_set(&mut self, unit: UnitId, focus: Focus) -> Result<(), Memory>
         ensures ok { OnOk result (self.new ≡ with_focus self.old unit focus) }
         ensures err { OnErr result (self.new ≡ when_refused self.old) }
@@ -98,7 +99,7 @@ impl Agenda {
         changed
     }
 
-    /// A unit has no focus any more; nothing changes if it had none. `Memory`: a change before this one was refused.
+    /// Removes the focus of a unit, if it had one. `Memory`: memory was refused to an earlier change.
     pub fn focus_gone(&mut self, unit: UnitId) -> Result<(), Memory>
         ensures ok { OnOk result (self.new ≡ without_focus self.old unit) }
         ensures err { OnErr result (self.new ≡ when_refused self.old) }

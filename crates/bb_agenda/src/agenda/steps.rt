@@ -1,4 +1,4 @@
-//! The four changes of an agenda that can want memory, where it was refused to none before. `changes` calls them.
+//! The four changes of an agenda that can need memory, if none was refused before. `changes` calls them.
 
 ghost use Rattle.std.specs.Prelude.{◌≡◌, OnOk, OnErr};
 ghost use Rattle.bb_basis.specs.Results.{Gives};
@@ -6,12 +6,12 @@ ghost use Rattle.bb_agenda.specs.Changes.{added_number, with_activation, with_ob
 
 use crate::agenda::Agenda;
 use crate::fault::AddFault;
-use bb_agenda_foci::{Activation, Focus};
+use crate::focusing::{Activation, Focus};
 use bb_basis::Memory;
 use bb_schema::UnitId;
 
 impl Agenda {
-    /// Puts an activation under the next number, and returns that. An error changes nothing.
+    /// Adds an activation under the next number and returns that number. An error changes nothing.
     pub(crate) fn put(&mut self, source: u16, unit: UnitId, base: i64) -> Result<u64, AddFault>
         ensures number { Gives AddFault.Memory (λ number. number) result (added_number self.old) }
         ensures added { OnOk result (self.new ≡ with_activation self.old source unit base) }
@@ -31,7 +31,7 @@ impl Agenda {
         Ok(number)
     }
 
-    /// Takes the pending activation of a number off. An error changes nothing.
+    /// Obviates the pending activation with a number, if there is one. An error changes nothing.
     pub(crate) fn take_off(&mut self, number: u64) -> Result<(), Memory>
         ensures ok { OnOk result (self.new ≡ with_obviated self.old number) }
         ensures err { OnErr result (self.new ≡ self.old) }
@@ -44,7 +44,7 @@ impl Agenda {
         Ok(())
     }
 
-    /// Gives the pending activation of a number another base. An error changes nothing.
+    /// Gives the pending activation with a number another base. An error changes nothing.
     pub(crate) fn put_base(&mut self, number: u64, base: i64) -> Result<(), Memory>
         ensures ok { OnOk result (self.new ≡ with_base self.old number base) }
         ensures err { OnErr result (self.new ≡ self.old) }

@@ -1,27 +1,27 @@
-//! What changes the lists and orders in which pending activations stand. waiting.rt calls it.
+//! The changes of the lists and orders of pending activations. waiting.rt calls them.
 
 ghost use Rattle.std.specs.Prelude.{◌≡◌, ℕ, ℤ, true, false, ◌&&◌, ◌==◌, ◌<◌, OnOk, OnErr, map, Some, if◌then◌else◌};
 ghost use Rattle.std.specs.List.{AllByRecursion};
 ghost use Rattle.std.specs.Map.{lookup, set_value};
 ghost use Rattle.std.specs.Ordering.{nat_cmp};
 ghost use Rattle.std.specs.BTreeMap.{is_at, insert_entry};
-ghost use Rattle.bb_agenda_foci.specs.declared.activation.Activation.{Activation as Given};
+ghost use Rattle.bb_agenda.specs.declared.focusing.activation.Activation.{Activation as Given};
 ghost use Rattle.bb_agenda.specs.declared.rank.Rank.{Rank as Ranked};
 ghost use Rattle.bb_agenda.specs.Changes.{based_at};
 ghost use Rattle.bb_agenda.specs.proving.Lists.{HasMore, AreSame};
 ghost use Rattle.bb_agenda.specs.proving.Ranks.{is_ranked, ranked_more, same_rank, rank_of, reranked};
 
+use crate::focusing::Activation;
 use crate::lists::Lists;
 use crate::order::{rank_in, rank_out};
 use crate::rank::Rank;
-use bb_agenda_foci::Activation;
 use bb_basis::Memory;
 use std::alloc::{AllocError, Global};
 use std::cmp::Reverse;
 use std::collections::{BTreeMap, BTreeSet};
 
-// Puts an activation into its lists and the order of its source. After an error it is in none, and the others are as
-// before.
+// Adds an activation to its lists and to the order of its source. After an error it is in none of them, and the others
+// are as before.
 fn file(
     alloc: Global,
     lists: &mut Lists,
@@ -45,7 +45,8 @@ fn file(
     Ok(())
 }
 
-/// Keeps an activation, whose number is above all others. After an error it is not there, and the others are as before.
+/// Stores an activation whose number is above all others. After an error it is not stored, and the others are as
+/// before.
 pub(crate) fn store(
     alloc: Global,
     activations: &mut BTreeMap<u64, Activation>,
@@ -75,7 +76,7 @@ pub(crate) fn store(
     }
 }
 
-/// Puts an activation elsewhere into the order of its source, by another base than it has. An error changes no order.
+/// Moves an activation within the order of its source, to the rank of another base. An error changes no order.
 pub(crate) fn rerank(
     alloc: Global,
     orders: &mut Vec<BTreeSet<Rank>>,
@@ -96,7 +97,7 @@ pub(crate) fn rerank(
     Ok(())
 }
 
-/// Gives the activation of a number another base.
+/// Gives the activation with a number another base.
 pub(crate) fn rebase(activations: &mut BTreeMap<u64, Activation>, number: u64, base: i64)
     ensures { (a : Given) → lookup (is_at (nat_cmp number)) activations.old.entries ≡ Some a →
         activations.new.entries ≡ set_value (is_at (nat_cmp number)) activations.old.entries (based_at base a) }

@@ -1,4 +1,4 @@
--- What holds of the parts of every table.
+-- The invariant of tables: how the parts of a table agree.
 use Rattle.std.specs.Prelude.{◌≡◌, ◌≤◌, ℕ, List, map, length}
 use Rattle.bb_basis.specs.declared.table.TheConstants.{ITEM_LIMIT}
 

@@ -2,11 +2,11 @@
 use Rattle.std.proofs.Common.{◌≡◌, ℕ, zero, suc, ◌+◌, Bool, true, false, List, [], ◌∷◌, length, take, Option, Some, None, refl, ap, subst, ◌∙◌, arith, nat_lt}
 use Rattle.std.specs.Prelude.{slice_get, option_and_then, option_map, if◌then◌else◌}
 use Rattle.std.specs.Option.{option_map_or}
-use Rattle.bb_schema_slots.specs.declared.slot.Slot.{Slot}
+use Rattle.bb_schema.specs.declared.slot.Slot.{Slot}
 use Rattle.bb_schema.specs.declared.couple.Side.TheVariants.{A, B}
 use Rattle.bb_schema_classes.specs.declared.kind.Link.{Link}
 use Rattle.bb_schema.specs.Schema.{Schema}
-use Rattle.bb_schema_slots.specs.Slots.{link_in, link_of}
+use Rattle.bb_schema.specs.Slots.{link_in, link_of}
 use Rattle.bb_schema.specs.Couples.{comes_first, firsts, couple_end, couple_of, couple_number}
 use Rattle.bb_schema.specs.Fits as schemas
 use Rattle.bb_board_state.proofs.SideLemmas.{inverse_end}

@@ -16,9 +16,9 @@ use Rattle.bb_schema_classes.specs.Fits.{IsClass}
 use Rattle.bb_schema_classes.proofs.Laws.{All-at}
 use Rattle.bb_schema.specs.declared.couple.Side.{Side}
 use Rattle.bb_schema.specs.declared.couple.Side.TheVariants.{A, B}
-use Rattle.bb_schema_slots.specs.declared.slot.Slot.{Slot}
+use Rattle.bb_schema.specs.declared.slot.Slot.{Slot}
 use Rattle.bb_schema.specs.Schema.{Schema, slots_of, descends}
-use Rattle.bb_schema_slots.specs.Slots.{link_of}
+use Rattle.bb_schema.specs.Slots.{link_of}
 use Rattle.bb_schema.specs.Couples.{couple_of, couple_end}
 use Rattle.bb_schema.specs.Fits as schemas
 use Rattle.bb_units.specs.Units.{is_live, class_of}

@@ -1,4 +1,4 @@
--- What the writer of a bundle knows of what it wrote: reading it gives the same again.
+-- What the writer of a bundle proves about what it wrote: reading it gives the same again.
 use Rattle.std.specs.Prelude.{◌≡◌, ℕ, ℤ, true, nat_le, Option, Some, None, Ok, FitsSigned}
 use Rattle.std.specs.Int.{w64}
 use Rattle.std.specs.List.{list_all}
@@ -11,31 +11,31 @@ use Rattle.bb_bundle.specs.Spelled.{IsSpelled}
 use Rattle.bb_bundle.specs.Bundle.{code_in}
 use Rattle.bb_bundle.specs.Written.{code_digits}
 
--- the hex digits of a code spell it, and are no spaces
+-- the hex digits of a code spell it, and contain no spaces
 pub record IsAgain (code : Code) : Type 0 where
   pub word : list_all (nat_le 33) (code_digits code) ≡ true
   pub read : (line : ℕ) → code_in line (code_digits code) ≡ Ok code
 
--- the hex digits of a part that is a code alone spell it, if the part is there
+-- if the part is present, the hex digits of its code spell it
 abbrev pub AreAgain : Option Code → Type 0
 AreAgain None = Unit {0}
 AreAgain (Some code) = IsAgain code
 
--- the hex digits of a reaction's code spell it, if the reaction is there
+-- if the reaction is present, the hex digits of its code spell it
 abbrev pub IsReactionAgain : Option (ReactionDraft Code) → Type 0
 IsReactionAgain None = Unit {0}
 IsReactionAgain (Some reaction) = IsAgain reaction.code
 
--- the hex digits of an act's code spell it, if the act is a code
+-- if the act is a code, its hex digits spell it
 abbrev pub IsActAgain : ActDraft Code → Type 0
 IsActAgain (Do code) = IsAgain code
 IsActAgain Native = Unit {0}
 
--- 64 bits hold a rate
+-- a rate fits in 64 bits
 abbrev pub IsRate : ℤ → Type 0
 IsRate rate = FitsSigned w64 rate
 
--- the codes of a source are spelled, and 64 bits hold its rate
+-- all codes of a source are spelled by their hex digits, and its rate fits in 64 bits
 pub record IsSourceAgain (s : SourceDraft Code) : Type 0 where
   pub rate : IsRate s.header.rate
   pub require : AreAgain s.parts.require
@@ -44,7 +44,7 @@ pub record IsSourceAgain (s : SourceDraft Code) : Type 0 where
   pub revalidate : AreAgain s.parts.revalidate
   pub act : IsActAgain s.act
 
--- all of a source is spelled
+-- a bundle can spell the source, and reading it gives the same codes and rate
 pub record IsSpelledAgain (s : SourceDraft Code) : Type 0 where
   pub spelled : IsSpelled s
   pub again : IsSourceAgain s

@@ -1,4 +1,4 @@
--- How what was read of a bundle is stored as data that can be told apart.
+-- An injective encoding of the parser's state.
 use Rattle.std.specs.Prelude.{ℕ, List, Option, refl}
 use Rattle.std.specs.Coded.{Coded, code_by, coded×, coded_ℕ, coded_list, coded_option}
 use Rattle.bb_code.specs.Code.{Code}

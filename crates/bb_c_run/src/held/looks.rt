@@ -1,4 +1,4 @@
-//! What a host sees of a run that is held: of its blackboard, of what is due, and of what its sources may cost.
+//! What a host sees of a held run: its blackboard, what is due, and what its sources can cost.
 
 ghost use Rattle.std.specs.Prelude.{◌≡◌, IfErr, IfOk, length, option_and_then, option_map};
 ghost use Rattle.bb_c_run.specs.Costs.{creates_in, most_steps_in};
@@ -12,7 +12,8 @@ use crate::looking::{self, fill};
 use bb_shell::{Memory, UnitId, Value};
 
 impl Held {
-    /// A label by the names of its set and of itself, if the schema has it. Once the run was finished there is none.
+    /// Returns a label, by the names of its set and of the label, if the schema has it. `None` once the run is
+    /// finished.
     pub fn label(&self, set: &str, label: &str) -> Option<Value>
         ensures { result ≡ label_in self.now.running set.now label.now }
     {
@@ -23,8 +24,8 @@ impl Held {
         Some(Value::Label(set, schema.label(set, label)?))
     }
 
-    /// The name of the class of a unit, as much as there is room for; returns the number of its bytes, if there is such a
-    /// unit. Once the run was finished there is none.
+    /// Copies as much of the name of a unit's class as `to` has room for, and returns the number of bytes of the name.
+    /// `None` if there is no such unit, or once the run is finished.
     pub fn class(&self, unit: UnitId, to: &mut [u8]) -> Option<usize>
         ensures count { result ≡ option_map length (class_at self.now.running unit) }
         ensures filled { to.new ≡ filled_if (class_at self.now.running unit) to.old }
@@ -33,28 +34,30 @@ impl Held {
         Some(fill(looking::class(&view, unit)?.as_bytes(), to))
     }
 
-    /// The number in an ordinary slot of a unit, if there is such a unit with such a slot, and it holds a number.
+    /// Returns the number in an ordinary slot of a unit. `None` if there is no such unit or slot, if the slot holds
+    /// something else, or once the run is finished.
     pub fn number(&self, unit: UnitId, slot: &str) -> Option<i64>
         ensures { result ≡ option_and_then number_of (value_at self.now.running unit slot.now) }
     {
         looking::number(&self.running.as_ref()?.view(), unit, slot)
     }
 
-    /// The truth value in an ordinary slot of a unit, likewise.
+    /// Returns the truth value in an ordinary slot of a unit, or `None` like `number`.
     pub fn truth(&self, unit: UnitId, slot: &str) -> Option<bool>
         ensures { result ≡ option_and_then truth_of (value_at self.now.running unit slot.now) }
     {
         looking::truth(&self.running.as_ref()?.view(), unit, slot)
     }
 
-    /// The first and the last number of the interval in an ordinary slot of a unit, likewise.
+    /// Returns the first and last number of the interval in an ordinary slot of a unit, or `None` like `number`.
     pub fn interval(&self, unit: UnitId, slot: &str) -> Option<(i64, i64)>
         ensures { result ≡ option_and_then interval_of (value_at self.now.running unit slot.now) }
     {
         looking::interval(&self.running.as_ref()?.view(), unit, slot)
     }
 
-    /// The text in an ordinary slot of a unit, likewise: as much as there is room for, and the number of its bytes.
+    /// Copies as much of the text in an ordinary slot of a unit as `to` has room for, and returns the number of bytes
+    /// of the text, or `None` like `number`.
     pub fn text(&self, unit: UnitId, slot: &str, to: &mut [u8]) -> Option<usize>
         ensures count { result ≡ option_map length (option_and_then text_of (value_at self.now.running unit slot.now)) }
         ensures filled { to.new ≡ filled_if (option_and_then text_of (value_at self.now.running unit slot.now)) to.old }
@@ -63,7 +66,7 @@ impl Held {
         Some(fill(looking::text(&view, unit, slot)?.as_bytes(), to))
     }
 
-    /// The name of the label in an ordinary slot of a unit, likewise.
+    /// Copies the name of the label in an ordinary slot of a unit, as `text` does, or returns `None` like `number`.
     pub fn label_name(&self, unit: UnitId, slot: &str, to: &mut [u8]) -> Option<usize>
         ensures count { result ≡ option_map length (label_name_at self.now.running unit slot.now) }
         ensures filled { to.new ≡ filled_if (label_name_at self.now.running unit slot.now) to.old }
@@ -72,8 +75,8 @@ impl Held {
         Some(fill(looking::label_name(&view, unit, slot)?.as_bytes(), to))
     }
 
-    /// The partners of a unit by a slot, in order of addition: as many as there is room for, and their number, if there
-    /// is such a unit with such a slot.
+    /// Copies as many partners of a unit by a slot as `to` has room for, in order of addition, and returns their
+    /// number. `None` if there is no such unit or slot, or once the run is finished. `Memory`: memory ran out.
     pub fn partners(
         &self,
         unit: UnitId,
@@ -90,7 +93,7 @@ impl Held {
         }
     }
 
-    /// The number that the next new unit gets, or 0 once the run was finished.
+    /// Returns the number of the next new unit, or 0 once the run is finished.
     pub fn next_unit(&self) -> UnitId
         ensures { result ≡ next_in self.now.running }
     {
@@ -100,7 +103,7 @@ impl Held {
         }
     }
 
-    /// The number of cycles that were made, or 0 once the run was finished.
+    /// Returns the number of cycles that were made, or 0 once the run is finished.
     pub fn made(&self) -> u64
         ensures { result ≡ made_in self.now.running }
     {
@@ -110,8 +113,9 @@ impl Held {
         }
     }
 
-    /// The numbers of the units of a class, and of those below it, rising: as many as there is room for, and how many
-    /// there are, if there is such a class. Once the run was finished there is none.
+    /// Copies as many numbers of the units of a class and of the classes below it as `to` has room for, ascending, and
+    /// returns how many units there are. `None` if there is no such class, or once the run is finished. `Memory`:
+    /// memory ran out.
     pub fn units(&self, class: &str, to: &mut [UnitId]) -> Result<Option<usize>, Memory>
         ensures count { IfOk result (λ n. n ≡ option_map length (units_at self.now.running class.now)) }
         ensures filled { IfOk result (λ _. to.new ≡ filled_if (units_at self.now.running class.now) to.old) }
@@ -123,8 +127,8 @@ impl Held {
         }
     }
 
-    /// The document of first units of the blackboard: as much as there is room for, and the number of its bytes. Once
-    /// the run was finished there is none.
+    /// Copies as much of the blackboard's document of initial units as `to` has room for, and returns the number of
+    /// bytes of the document. `None` once the run is finished. `Memory`: memory ran out.
     pub fn document(&self, to: &mut [u8]) -> Result<Option<usize>, Memory>
         ensures count { IfOk result (λ n. n ≡ option_map length (document_at self.now.running)) }
         ensures filled { IfOk result (λ _. to.new ≡ filled_if (document_at self.now.running) to.old) }
@@ -136,8 +140,8 @@ impl Held {
         }
     }
 
-    /// The unit on which a native is due, and its name: as much as there is room for, and the number of its bytes. None
-    /// where no native is due.
+    /// Returns the unit for which a native is due and the number of bytes of the native's name, and copies as much of
+    /// the name as `to` has room for. `None` if no native is due, or once the run is finished.
     pub fn due(&self, to: &mut [u8]) -> Option<(UnitId, usize)>
         ensures due { result ≡ option_map (λ d. (d.0, length d.1)) (due_in self.now.running) }
         ensures filled { to.new ≡ filled_if (option_map (λ d. d.1) (due_in self.now.running)) to.old }
@@ -147,8 +151,8 @@ impl Held {
         Some((unit, fill(name.as_bytes(), to)))
     }
 
-    /// The greatest number of steps that an execution of any code of the sources can make, where no sequence that it
-    /// finds has more than `found` units, up to 2^64 - 1. Once the run was finished there is none.
+    /// Returns the maximum number of steps that an execution of any code of the sources can make if no sequence that it
+    /// finds has more than `found` units; at most 2^64 - 1. `None` once the run is finished.
     pub fn most_steps(&self, found: u32) -> Option<u64>
         ensures { result ≡ most_steps_in self.now.running found }
     {
@@ -156,7 +160,7 @@ impl Held {
         Some(costs::most_steps(running.plan().sources(), found))
     }
 
-    /// Whether one of the sources has a code that makes a unit. Once the run was finished there is no answer.
+    /// Returns whether one of the sources has a code that creates a unit. `None` once the run is finished.
     pub fn creates(&self) -> Option<bool>
         ensures { result ≡ creates_in self.now.running }
     {

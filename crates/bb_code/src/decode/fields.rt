@@ -1,24 +1,24 @@
-//! Single fields at the front of bytes, and lists of them. Each function returns what it read and the bytes after it.
-//! All other readers call it.
+//! Single fields at the start of bytes, and lists of them. Each function returns the value and the bytes after it. All
+//! other readers call these.
 
 ghost use Rattle.std.specs.Prelude.{◌≡◌};
 ghost use Rattle.bb_basis.specs.Results.{Gives};
 ghost use Rattle.bb_code.specs.Fields.{Field as Reads, byte_at, number_at, int_at, bool_at, count_at};
-ghost use Rattle.bb_code_ops.specs.Answers.{map_ok};
+ghost use Rattle.bb_code.specs.Answers.{map_ok};
 ghost use Rattle.bb_code.specs.Fields.{short_count_at, repeated, list_at, short_list_at, text_at};
 
 use crate::fault::CodeFault;
 use bb_basis::{Items, Text};
 use std::alloc::Global;
 
-/// A field that can stand in a list.
+/// A field that can be an item of a list.
 pub(crate) trait Field: Sized {
     ghost use Rattle.bb_code.specs.Fields.{Field as Reads};
 
-    /// What the front of bytes is as such a field.
+    /// The result of reading such a field at the start of bytes.
     ghost at: { Reads Self };
 
-    /// Reads one from the front of bytes.
+    /// Reads one at the start of bytes.
     fn read(alloc: Global, bytes: &[u8]) -> Result<(Self, &[u8]), CodeFault>
         ensures { Gives CodeFault.Memory (λ x. (x.0, x.1.now)) result (at bytes.now) };
 }
@@ -43,7 +43,7 @@ where
     Ok((Items::from(items), rest))
 }
 
-/// Reads a count from `low` to `high`, and as many fields.
+/// Reads a count from `low` to `high`, and then that number of fields.
 #[tactic(auto, unfolding(crate::specs::Fields::list_at))]
 pub(crate) fn read_list<F: Field>(
     alloc: Global,
@@ -59,7 +59,7 @@ where
     read_each(alloc, count as usize, rest)
 }
 
-/// Reads a count of one byte up to `high`, and as many fields.
+/// Reads a count of one byte up to `high`, and then that number of fields.
 #[tactic(auto, unfolding(crate::specs::Fields::short_list_at))]
 pub(crate) fn read_short_list<F: Field>(
     alloc: Global,

@@ -1,15 +1,17 @@
-//! Declared frames and loops at the front of bytes. `decode` calls it.
+//! Declared frames and loops at the start of bytes. `decode` calls it.
 
 ghost use Rattle.std.specs.Prelude.{◌≡◌};
 ghost use Rattle.bb_basis.specs.Results.{Gives};
-ghost use Rattle.bb_code_ops.specs.Answers.{map_ok};
+ghost use Rattle.bb_code.specs.Answers.{map_ok};
 ghost use Rattle.bb_code.specs.Fields.{kind_after, frame_at, kind_at, list_at, repeated, short_list_at};
 
 use super::fields::{Field, read_byte, read_count, read_number, read_short_count};
 use crate::fault::CodeFault;
+use crate::frame::{Frame, FrameEntry, Kind, Loop};
+use crate::kinds::Kinds;
+use crate::parts::{FRAME_LIMIT, STACK_LIMIT};
 use crate::table::{KindForm, kind_form};
 use bb_basis::Items;
-use bb_code_ops::{FRAME_LIMIT, Frame, FrameEntry, Kind, Kinds, Loop, STACK_LIMIT};
 use std::alloc::Global;
 
 #[tactic(auto, unfolding(crate::specs::Fields::kind_after))]
@@ -77,7 +79,7 @@ fn read_kinds(alloc: Global, count: usize, bytes: &[u8]) -> Result<(Kinds, &[u8]
     Ok((kinds, rest))
 }
 
-// Reads the kinds of a stack, and how many they are before them.
+// Reads the number of kinds of a stack, and then the kinds.
 #[tactic(auto, unfolding(crate::specs::Fields::short_list_at))]
 fn read_stack(alloc: Global, bytes: &[u8]) -> Result<(Kinds, &[u8]), CodeFault>
     ensures { Gives CodeFault.Memory (λ x. (x.0, x.1.now)) result

@@ -1,13 +1,14 @@
-//! Ops at the front of bytes. `decode` calls it.
+//! Ops at the start of bytes. `decode` calls it.
 
 ghost use Rattle.std.specs.Prelude.{◌≡◌};
-ghost use Rattle.bb_code_ops.specs.Answers.{map_ok};
+ghost use Rattle.bb_code.specs.Answers.{map_ok};
 ghost use Rattle.bb_code.specs.Ops.{push_label_at, branch_at, divide_at, say_at, next_at, op_after};
 
 use super::fields::{Field, read_bool, read_byte, read_int, read_number};
 use crate::fault::CodeFault;
+use crate::op::{Division, Op};
+use crate::parts::SAID_LIMIT;
 use crate::table::{Branch, OpForm, op_form};
-use bb_code_ops::{Division, Op, SAID_LIMIT};
 use std::alloc::Global;
 
 #[tactic(auto, unfolding(crate::specs::Ops::push_label_at))]

@@ -1,15 +1,15 @@
-//! Queries and their patterns at the front of bytes. `decode` calls it.
+//! Queries and their patterns at the start of bytes. `decode` calls it.
 
 ghost use Rattle.std.specs.Prelude.{map};
 ghost use Rattle.bb_basis.specs.Results.{Gives};
-ghost use Rattle.bb_code_ops.specs.View.{tree_of};
-ghost use Rattle.bb_code_ops.specs.Answers.{map_ok};
+ghost use Rattle.bb_pattern.specs.View.{tree_of};
+ghost use Rattle.bb_code.specs.Answers.{map_ok};
 ghost use Rattle.bb_code.specs.Patterns.{parts_at, node_after, node_at, pattern_at};
 
 use super::fields::{Field, read_byte, read_number, read_short_list};
 use crate::fault::CodeFault;
 use crate::table::{NodeForm, node_form};
-use bb_code_ops::{NODE_LIMIT, Node, OPERAND_LIMIT, OperandKind, Pattern, Query};
+use crate::{NODE_LIMIT, Node, OPERAND_LIMIT, OperandKind, Pattern, Query};
 use std::alloc::Global;
 
 impl Field for OperandKind {
@@ -54,7 +54,7 @@ impl Field for Query {
     }
 }
 
-// Reads a pattern of at most `depth` levels and `room` nodes, and returns how many nodes may still come.
+// Reads a pattern of at most `depth` levels and `room` nodes, and returns the number of nodes left of `room`.
 #[cycle(reading)]
 fn read_pattern(
     alloc: Global,
@@ -70,7 +70,7 @@ fn read_pattern(
     read_tagged(alloc, depth - 1, room - 1, bytes)
 }
 
-// Reads a node whose parts are of at most `depth` levels.
+// Reads a node whose parts have at most `depth` levels.
 #[cycle(reading)]
 #[tactic(auto, unfolding(crate::specs::Patterns::node_at))]
 fn read_tagged(
@@ -136,7 +136,7 @@ fn read_node(
     }
 }
 
-// Reads the number of the parts of a node, and the parts, which are of at most `depth` levels.
+// Reads the number of parts of a node, and then the parts, which have at most `depth` levels.
 #[cycle(reading)]
 #[tactic(auto, unfolding(crate::specs::Patterns::parts_at))]
 fn read_parts(

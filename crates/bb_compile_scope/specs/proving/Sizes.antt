@@ -1,4 +1,4 @@
--- How large statements are: the nodes of their blocks.
+-- The size of statements: the number of nodes of their blocks.
 use Rattle.std.specs.Prelude.{ℕ}
 use Rattle.bb_lang.specs.Blocks.{BlockTree, StatementTree, OtherwiseTree, absent, otherwise}
 use Rattle.bb_lang.specs.proving.BlockCodes.{parts, block_size}

@@ -1,15 +1,15 @@
--- How blocks are stored as data that can be told apart: as trees with a label at each node.
+-- An injective encoding of blocks: as trees with a label at each node.
 use Rattle.std.specs.Prelude.{◌≡◌, ◌⊎◌, ℕ, List}
 use Rattle.std.proofs.Common.{inl, inr, refl, ap, ◌∙◌}
 use base.Stored.{coded_unit}
 use Rattle.std.specs.Coded.{Coded, code_by, coded×, coded⊎, coded_ℕ, coded_list}
 use Rattle.bb_lang_tree.specs.declared.block.Action.{Action}
 use Rattle.bb_lang_tree.specs.declared.block.Binding.{Binding}
-use Rattle.bb_lang_token.specs.declared.place.Place.{Place}
+use Rattle.bb_lang_tree.specs.declared.place.Place.{Place}
 use Rattle.bb_lang_tree.specs.declared.tree.Sequence.{Sequence}
 use Rattle.bb_lang_tree.specs.contracts.block.Action as actions
 use Rattle.bb_lang_tree.specs.contracts.block.Binding as bindings
-use Rattle.bb_lang_token.specs.contracts.place.Place as places
+use Rattle.bb_lang_tree.specs.contracts.place.Place as places
 use Rattle.bb_lang_tree.specs.contracts.tree.Sequence as sequences
 use Rattle.bb_lang_tree.specs.Trees.{ExprTree}
 use Rattle.bb_lang_tree.specs.Blocks.{BlockTree, StatementTree, OtherwiseTree, no_statement, before_others, action, if_of, with_of, for_of, absent, otherwise}
@@ -104,6 +104,6 @@ same_inner b = same_block b
 abbrev pub block_code : Coded BlockTree
 block_code = code_by (Rose Label) (rose_code label_code) block_rose inner_block same_inner
 
--- how many nodes
+-- the number of nodes
 abbrev pub block_size : BlockTree → ℕ
 block_size b = nodes (block_rose b)

@@ -1,4 +1,4 @@
--- A block has more nodes than each block in it.
+-- A block has more nodes than any block in it.
 use Rattle.std.specs.Prelude.{suc, ◌≤◌, max, List, [], ◌∷◌, Option, Some, None}
 use Rattle.std.proofs.Common.{arith}
 use denote.Param.Weighed.{most}

@@ -1,4 +1,4 @@
--- How expressions and patterns are stored as data that can be told apart: as trees with a label at each node.
+-- An injective encoding of expressions and patterns: as trees with a label at each node.
 use Rattle.std.specs.Prelude.{◌≡◌, ◌⊎◌, ℕ, zero, suc, ℤ, true, List, []}
 use Rattle.std.proofs.Common.{inl, inr, refl, ap, ◌∙◌}
 use Rattle.std.specs.Coded.{Coded, code_by, coded×, coded⊎, coded_ℕ, coded_ℤ, coded_list}
@@ -21,7 +21,7 @@ use Rattle.bb_lang_tree.specs.contracts.atom.Variable as variables
 use Rattle.bb_lang_tree.specs.Trees.{ExprTree, Steps, SequenceTree, PatternTree, Patterns, atom, unary, binary, chain, size_of, no_step, apply, divide, found, linked, all, and_of, or_of, not_of, test, no_pattern, more}
 use Rattle.bb_lang_tree.specs.proving.Rose.{Rose, Roses, node, none, one_more, nodes, rose_code}
 
--- a node of an expression, of a chain's steps, of a sequence, of a pattern: without its parts
+-- the labels: a node of an expression, of a chain's steps, of a sequence or of a pattern, without its parts
 abbrev ExprLabel : Type 0
 ExprLabel = Atom ⊎ (Unary ⊎ (Binary ⊎ ℕ))
 
@@ -88,14 +88,14 @@ abbrev mutual
   pattern_roses no_pattern = none
   pattern_roses (more p ps) = one_more (pattern_rose p) (pattern_roses ps)
 
--- what has no tree
+-- for labels that do not belong to an expression or a sequence
 abbrev no_expr : ExprTree
 no_expr = atom (Bool true)
 
 abbrev no_sequence : SequenceTree
 no_sequence = linked It []
 
--- the tree of a label, of what its parts are read as
+-- the tree of a label, given the trees of its parts
 abbrev expr_made : Label → (first second : ExprTree) → Steps → SequenceTree → ExprTree
 expr_made (inl (inl (inl a))) first second steps s = atom a
 expr_made (inl (inl (inr (inl op)))) first second steps s = unary op first
@@ -198,7 +198,7 @@ expr_code = code_by (Rose Label) (rose_code label_code) expr_rose expr_back same
 abbrev pub pattern_code : Coded PatternTree
 pattern_code = code_by (Rose Label) (rose_code label_code) pattern_rose pattern_back same_pattern
 
--- how many nodes
+-- the number of nodes
 abbrev pub expr_size : ExprTree → ℕ
 expr_size e = nodes (expr_rose e)
 

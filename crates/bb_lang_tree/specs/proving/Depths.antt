@@ -1,4 +1,4 @@
--- An expression or a pattern has more nodes than each of its parts.
+-- An expression or a pattern has more nodes than any of its parts.
 use Rattle.std.specs.Prelude.{◌+◌, ◌≤◌, max, List, [], ◌∷◌}
 use Rattle.std.proofs.Common.{arith}
 use denote.Param.Weighed.{most}

@@ -1,4 +1,4 @@
--- Trees with a label at each node, as which other trees are stored.
+-- Trees with a label at each node. Other trees are stored as these.
 use Rattle.std.specs.Prelude.{◌≡◌, ℕ, ◌+◌, suc}
 use Rattle.std.proofs.Common.{refl, ap, ◌∙◌}
 use Rattle.std.specs.Coded.{Coded}

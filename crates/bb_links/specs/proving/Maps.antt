@@ -11,10 +11,10 @@ use Rattle.std.specs.BTreeMap.Range.{entries_between}
 abbrev pub pair_cmp : ℕ × ℕ → ℕ × ℕ → Ordering
 pair_cmp p q = ordering_then (nat_cmp p.0 q.0) (nat_cmp p.1 q.1)
 
--- what is under a key
+-- the value under a key
 abbrev pub value_at : BTreeMap (ℕ × ℕ) ℕ → ℕ × ℕ → Option ℕ
 value_at m key = get pair_cmp m key
 
--- the values under a number and second numbers below one, in their order
+-- the values under a first number and second numbers below `end`, in their order
 abbrev pub row : BTreeMap (ℕ × ℕ) ℕ → ℕ → ℕ → List ℕ
 row m n end = values_of (entries_between pair_cmp (Included (n, 0)) (Excluded (n, end)) m.entries)

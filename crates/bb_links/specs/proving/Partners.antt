@@ -25,12 +25,12 @@ partner_at side p key = value_at (map_of side p) key
 abbrev pub listed_at : Side → Partners → ℕ → ℕ → List ℕ
 listed_at side p n end = row (map_of side p) n end
 
--- one pair more, under its stamp
+-- another pair, under its stamp
 abbrev pub IsPut : ℕ × ℕ → ℕ → Partners → Partners → Type 0
 IsPut pair stamp old new = (side : Side) (key : ℕ × ℕ) →
     partner_at side new key ≡ (if same_pair (near side pair, stamp) key then Some (far side pair) else partner_at side old key)
 
--- one pair less
+-- a pair fewer
 abbrev pub IsTaken : ℕ × ℕ → ℕ → Partners → Partners → Type 0
 IsTaken pair stamp old new = (side : Side) (key : ℕ × ℕ) →
     partner_at side new key ≡ (if same_pair (near side pair, stamp) key then None else partner_at side old key)
@@ -38,10 +38,10 @@ IsTaken pair stamp old new = (side : Side) (key : ℕ × ℕ) →
 abbrev pub IsUnchanged : Partners → Partners → Type 0
 IsUnchanged old new = (side : Side) (key : ℕ × ℕ) → partner_at side new key ≡ partner_at side old key
 
--- the partner of a unit in a pair in which it is at a side
+-- the partner of a unit in a pair, if the unit is at the side
 abbrev pub partner_in : Side → ℕ → ℕ × ℕ → Option ℕ
 partner_in side n p = if near side p == n then Some (far side p) else None
 
--- at each side the unit of each pair has its partner under the pair's stamp, and no more
+-- at each side, each unit of a pair has its partner under the pair's stamp, and nothing else is stored
 abbrev pub Follow : (ℕ → Option (ℕ × ℕ)) → Partners → Type 0
 Follow under p = (side : Side) (key : ℕ × ℕ) → partner_at side p key ≡ option_and_then (partner_in side key.0) (under key.1)

@@ -1,4 +1,4 @@
--- The stamps of pairs. They rise, so the pairs in the order of their stamps are those in order of addition.
+-- The stamps of pairs. They rise, so the order of stamps is the order of addition.
 use Rattle.std.specs.Prelude.{◌≡◌, ◌==◌, ◌<◌, ℕ, zero, suc, Bool, false, not, List, [], ◌++◌, Option, Some, filter, find}
 use Rattle.std.specs.Option.{option_map_or, option_to_list}
 use Rattle.std.specs.BTreeMap.{BTreeMap, keys}
@@ -20,7 +20,7 @@ abbrev pub in_order : ℕ → (ℕ → Option (ℕ × ℕ)) → List (ℕ × ℕ
 in_order zero under = []
 in_order (suc n) under = in_order n under ++ option_to_list (under n)
 
--- the stamp of each pair that has one, and the pair under each stamp that one has
+-- the stamp of each stamped pair, and the pair under each used stamp
 pub record AreStamped (next : ℕ) (stamp : ℕ × ℕ → Option ℕ) (under : ℕ → Option (ℕ × ℕ)) : Type 0 where
   pub below : (p : ℕ × ℕ) (s : ℕ) → stamp p ≡ Some s → s < next
   pub there : (p : ℕ × ℕ) (s : ℕ) → stamp p ≡ Some s → under s ≡ Some p
@@ -30,11 +30,11 @@ pub record AreKept (next : ℕ) (stamps : BTreeMap (ℕ × ℕ) ℕ) (partners :
   pub stamped : AreStamped next (value_at stamps) (pair_under stamps)
   pub follow : Follow (pair_under stamps) partners
 
--- each pair that has a stamp is the one under it, and has it
+-- each stamped pair is the pair under its stamp, and each pair under a stamp has that stamp
 pub record ArePaired (stamps : BTreeMap (ℕ × ℕ) ℕ) : Type 0 where
   pub there : (p : ℕ × ℕ) (s : ℕ) → value_at stamps p ≡ Some s → pair_under stamps s ≡ Some p
   pub found : (p : ℕ × ℕ) (s : ℕ) → pair_under stamps s ≡ Some p → value_at stamps p ≡ Some s
 
--- the pairs without those of a unit at a side
+-- the pairs without the pairs of a unit at a side
 unfoldable pub without_at : Side → ℕ → List (ℕ × ℕ) → List (ℕ × ℕ)
 without_at side n pairs = filter (λ p. not (near side p == n)) pairs

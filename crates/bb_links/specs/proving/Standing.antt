@@ -1,4 +1,4 @@
--- The couples in which a unit may have a pair: all in which it has one.
+-- The couples in which a unit may have a pair, including all in which it has one.
 use Rattle.std.specs.Prelude.{◌≡◌, ℕ, Bool, true, ◌==◌, ◌||◌, List, Option, Some, slice_get, if◌then◌else◌}
 use Rattle.std.specs.List.{list_any}
 use Rattle.bb_schema.specs.declared.couple.Side.{Side}
@@ -7,7 +7,7 @@ use Rattle.bb_links.specs.Couples.{Couple, forgotten}
 use Rattle.bb_links.specs.Fits.{Fits}
 use Rattle.bb_links.specs.proving.Lists.{listed}
 
--- whether one of some pairs is of a unit
+-- whether one of the pairs contains the unit
 abbrev pub stands_in : ℕ → List (ℕ × ℕ) → Bool
 stands_in n pairs = list_any (λ p. p.0 == n || p.1 == n) pairs
 
@@ -15,16 +15,16 @@ stands_in n pairs = list_any (λ p. p.0 == n || p.1 == n) pairs
 abbrev pub is_in : List ℕ → ℕ → Bool
 is_in list i = list_any (λ j. j == i) list
 
--- the list has each couple in which a unit has a pair
+-- the list has every couple in which the unit has a pair
 abbrev pub HasEach : ℕ → List Couple → List ℕ → Type 0
 HasEach n couples list =
     (i : ℕ) (k : Couple) → slice_get couples i ≡ Some k → stands_in n k.pairs ≡ true → is_in list i ≡ true
 
--- the list of each unit has each couple in which it has a pair
+-- the list of every unit has every couple in which the unit has a pair
 abbrev pub AreListed : List Couple → Lists → Type 0
 AreListed couples lists = (n : ℕ) → HasEach n couples (listed lists.lists n)
 
--- what the code keeps of all couples
+-- the invariant of the couples, their ends and the lists that the code keeps
 pub record AreKnown (couples : List Couple) (ends : List (Option (ℕ × Side))) (standing : Lists) : Type 0 where
   pub fits : Fits (record { couples = couples; ends = ends })
   pub each : AreListed couples standing

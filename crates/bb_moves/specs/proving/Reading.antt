@@ -1,4 +1,4 @@
--- What the code has read so far of a history.
+-- What the code has read of a history so far.
 use Rattle.std.specs.Prelude.{map, option_map}
 use Rattle.bb_moves.specs.Meant.{meant}
 use Rattle.bb_moves.specs.MovesText.{Asks, Progress}

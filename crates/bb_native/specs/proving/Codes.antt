@@ -1,4 +1,4 @@
--- How what a native sees is stored as data that can be told apart.
+-- Views as coded data, through the code of blackboards.
 use Rattle.std.specs.Prelude.{false, refl}
 use Rattle.std.specs.Coded.{Coded, code_by}
 use Rattle.bb_board.specs.Board.{Board}

@@ -1,5 +1,5 @@
--- How trees are stored as data that can be told apart: as the list of their nodes from the front, each with its number
--- of parts.
+-- How trees are encoded as data that can be compared: as the list of their nodes in order, each with its number of
+-- parts.
 use Rattle.std.specs.Prelude.{◌≡◌, ◌⊎◌, ℕ, zero, suc, List, [], ◌∷◌, refl}
 use Rattle.std.proofs.Common.{inl, inr, ap, ◌∙◌}
 use Rattle.std.specs.Coded.{Coded, code_by, coded×, coded⊎, coded_ℕ, coded_list}
@@ -28,7 +28,7 @@ relation_back Overlaps = refl
 relation_back Less = refl
 relation_back More = refl
 
--- a node without its parts: a number of parts or none, or a relation and two numbers, or two numbers
+-- a node without its parts: a number of parts or 0, or a relation and two numbers, or two numbers
 abbrev Sign : Type 0
 Sign = ℕ ⊎ (ℕ ⊎ (ℕ ⊎ (ℕ ⊎ ((ℕ × (ℕ × ℕ)) ⊎ (ℕ × ℕ)))))
 
@@ -63,7 +63,7 @@ abbrev head_of : Trees → Tree
 head_of no_more = all
 head_of (more p ps) = p
 
--- a node over the trees that come after it, of which it takes its parts
+-- a node in front of later trees, the first of which are its parts
 abbrev built : Sign → Trees → Trees
 built (inl _) later = more all later
 built (inr (inl n)) later = more (and_of (first_of n later)) (without n later)

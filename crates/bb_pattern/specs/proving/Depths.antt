@@ -1,4 +1,4 @@
--- A pattern has more nodes than each of its parts.
+-- A pattern has more nodes than any of its parts.
 use Rattle.std.specs.Prelude.{◌+◌, ◌≤◌, max, List, [], ◌∷◌}
 use Rattle.std.proofs.Common.{arith}
 use denote.Param.Weighed.{most}

@@ -1,4 +1,4 @@
--- What private functions say of a search.
+-- Properties of searches, for the contracts of private functions.
 use Rattle.std.specs.Prelude.{◌≡◌, ℕ, ◌<◌, Bool, true, List, Ok, Some, length}
 use Rattle.bb_pattern.specs.Fits.{query_fits}
 use Rattle.bb_pattern.specs.Holds.{holds}
@@ -19,18 +19,18 @@ abbrev pub AreOfClass : Search → Type 0
 AreOfClass s = (n : ℕ) (values : List DimValue) → values_in s.spaces.now s.query.now.space n ≡ Some values
     → is_of_class s.schema.now s.units.now s.query.now n ≡ true
 
--- the query's space is there
+-- the query's space exists
 abbrev pub HasSpace : Search → Type 0
 HasSpace s = s.query.now.space < length s.spaces.now.spaces
 
--- the query answers the unit
+-- whether the answer contains the unit
 abbrev pub is_answer : Search → ℕ → Bool
 is_answer s n = answers s.schema.now s.units.now s.spaces.now s.query.now s.operands.now n
 
--- the query's pattern holds of values
+-- whether the query's pattern holds of values
 abbrev pub matches : Search → List DimValue → Bool
 matches s values = holds s.operands.now values s.query.now.pattern
 
--- the list rises, and has all members of the query's space whose values pass a test
+-- the list is ascending, and has all members of the query's space whose values pass a test
 abbrev pub HasAll : Search → (List DimValue → Bool) → List ℕ → Type 0
 HasAll s test list = AreEnough s.spaces.now s.query.now.space test list

@@ -1,4 +1,4 @@
--- How sources are stored as data that can be told apart.
+-- An injective encoding of sources.
 use Rattle.std.specs.Coded.{Coded}
 use Rattle.bb_rules.specs.contracts.source.SourceParts as parts
 use Rattle.bb_rules.specs.Parts.{Source}

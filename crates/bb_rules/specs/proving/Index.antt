@@ -1,4 +1,4 @@
--- How the code finds the clauses that name an event. No public clause cites it.
+-- How the code finds the clauses that name an event. No public contract cites it.
 use Rattle.std.specs.Prelude.{◌≡◌, ◌==◌, ◌&&◌, ℕ, Bool, true, false, List}
 use Rattle.std.specs.List.{list_any}
 use Rattle.bb_board.specs.ChangeKind.{ChangeKind}
@@ -22,7 +22,7 @@ abbrev pub is_quiescence : Clause → Bool
 is_quiescence (clauses.Change of class) = false
 is_quiescence clauses.Quiescence = true
 
--- the index has what the clauses name
+-- the index has exactly the kinds and classes that the clauses name
 pub record IsIndex (list : List Clause) (index : KindIndex) (quiescence : Bool) : Type 0 where
   pub kinds : (kind : ChangeKind) (c : ℕ) → names_class index kind c ≡ list_any (is_about kind c) list
   pub quiet : quiescence ≡ list_any is_quiescence list

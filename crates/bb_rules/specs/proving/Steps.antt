@@ -1,4 +1,4 @@
--- The steps by which the code makes a source of its draft. No public clause cites them.
+-- The steps by which the code makes a source of its draft. No public contract cites them.
 use Rattle.std.specs.Prelude.{ℕ, List, Option, Some, None, Result, Ok}
 use Rattle.bb_basis.specs.Results.{◌>>=◌}
 use Rattle.bb_bundle.specs.declared.draft.ReactionDraft.{ReactionDraft}
@@ -15,14 +15,14 @@ use Rattle.bb_rules.specs.declared.source.Reaction.{Reaction}
 use Rattle.bb_rules.specs.Parts.{Source}
 use Rattle.bb_rules.specs.Source.{classes_of, clauses_of, made_of, parts_fit}
 
--- the clauses of a reaction, if there is one, which are this list
+-- the clauses of a reaction, if there is one, looked up as this list
 abbrev pub reaction_clauses : {C : Type 0} → Schema → ClauseList → Option ℕ → Option (ReactionDraft C) → Result (Option (List Clause)) RuleFault
 reaction_clauses s list (Some class) (Some draft) = do
   found ← clauses_of s list class draft.clauses
   Ok (Some found)
 reaction_clauses s list _ _ = Ok None
 
--- what the names in a draft of these classes stand for
+-- what the names in a draft with these classes stand for
 unfoldable pub found_with : {C : Type 0} → Schema → Classes → SourceDraft C → Result Found RuleFault
 found_with s c draft = do
   triggers ← clauses_of s lists.Triggers c.own draft.header.triggers
@@ -30,14 +30,14 @@ found_with s c draft = do
   retriggering ← reaction_clauses s lists.Retrigger c.retriggered draft.parts.retrigger
   Ok (record { classes = c; triggers = triggers; obviating = obviating; retriggering = retriggering })
 
--- what the names in a draft stand for, where each code is for its part
+-- what the names in a draft stand for; a fault if a code was not accepted for its part
 unfoldable pub found : Schema → SourceDraft Checked → Result Found RuleFault
 found s draft = do
   c ← classes_of s draft
   _ ← parts_fit c draft
   found_with s c draft
 
--- a reaction of its class, its clauses and its code, where all are there
+-- a reaction of its class, its clauses and its code, if all are present
 abbrev pub reaction_with : Option ℕ → Option (List Clause) → Option (ReactionDraft Checked) → Option Reaction
 reaction_with (Some class) (Some clauses) (Some draft) = Some (record { class = class; clauses = clauses; code = draft.code })
 reaction_with _ _ _ = None

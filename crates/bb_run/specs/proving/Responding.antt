@@ -1,4 +1,4 @@
--- What the sources at some places answer to an event, and no others. No public contract cites it.
+-- The responses of the sources at some places to an event, and of no others. No public contract cites it.
 use Rattle.std.specs.Prelude.{ℕ, List, [], ◌∷◌, slice_get}
 use Rattle.std.specs.Option.{option_map_or}
 use Rattle.bb_schema.specs.Schema.{Schema}

@@ -1,4 +1,4 @@
-//! The moves of a held run that apply asks: of the world outside, and of a native that is due.
+//! The moves of a held run that apply asks: from outside, and of a native that is due.
 
 ghost use Rattle.std.specs.Prelude.{◌≡◌, None, false};
 ghost use Rattle.bb_run.specs.Page.{stopped_by_write};
@@ -12,9 +12,8 @@ use crate::running::Running;
 use bb_run::{Ask, Halt, NativeSource, Out, Page, Runner};
 
 impl<N: NativeSource> Running<N> {
-    /// Tells the run what happened in the world outside: applies asks as those of a native are, in order, and processes
-    /// their events. Where the run is over, or a native is due, nothing happens. `Memory`, `Write`: the run is cut
-    /// short in it.
+    /// Posts what happened outside: applies asks in order, as those of a native, and processes their events. Does
+    /// nothing if the run is over or a native is due. `Memory`, `Write`: the run is cut short.
     pub fn post<O: Out>(&mut self, asks: Vec<Ask>, out: &mut O) -> Result<Pause, Halt>
         requires open { O.has_failed out.old ≡ false }
         requires whole { self.old.cut ≡ None }
@@ -33,7 +32,7 @@ impl<N: NativeSource> Running<N> {
         }
     }
 
-    // Applies asks from outside, where the run is not over.
+    // Applies asks from outside, if the run is not over and no native is due.
     fn post_on<O: Out>(&mut self, asks: Vec<Ask>, out: &mut O) -> Result<Pause, Halt>
         requires open { O.has_failed out.old ≡ false }
         requires whole { self.old.cut ≡ None }
@@ -44,7 +43,7 @@ impl<N: NativeSource> Running<N> {
         ensures kept { (self.new.plan ≡ self.old.plan) × (self.new.cut ≡ halt_of result) }
         ensures failed { O.has_failed out.new ≡ stopped_by_write result }
     {
-        // For the proof: what holds of every schema, plan and blackboard.
+        // For the proof: the invariants of the schema, the plan and the blackboard.
         self.plan.schema().fits();
         let _ = self.plan.sources();
         self.state.board.fits();
@@ -66,8 +65,8 @@ impl<N: NativeSource> Running<N> {
         }
     }
 
-    /// Answers for the native that is due: applies what it asks, in order, and processes the events of that. Where none
-    /// is due, nothing happens. `Memory`, `Write`: the run is cut short in it.
+    /// Answers for the native that is due: applies its asks in order and processes their events. Does nothing if no
+    /// native is due. `Memory`, `Write`: the run is cut short.
     pub fn answer<O: Out>(&mut self, asks: Vec<Ask>, out: &mut O) -> Result<Pause, Halt>
         requires open { O.has_failed out.old ≡ false }
         requires whole { self.old.cut ≡ None }
@@ -86,7 +85,7 @@ impl<N: NativeSource> Running<N> {
         }
     }
 
-    // Applies what a native that is due asks.
+    // Applies the asks of a native that is due.
     fn answer_on<O: Out>(&mut self, asks: Vec<Ask>, out: &mut O) -> Result<Pause, Halt>
         requires open { O.has_failed out.old ≡ false }
         requires whole { self.old.cut ≡ None }
@@ -97,7 +96,7 @@ impl<N: NativeSource> Running<N> {
         ensures kept { (self.new.plan ≡ self.old.plan) × (self.new.cut ≡ halt_of result) }
         ensures failed { O.has_failed out.new ≡ stopped_by_write result }
     {
-        // For the proof: what holds of every schema, plan and blackboard.
+        // For the proof: the invariants of the schema, the plan and the blackboard.
         self.plan.schema().fits();
         let _ = self.plan.sources();
         self.state.board.fits();

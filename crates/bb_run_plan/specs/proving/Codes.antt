@@ -1,4 +1,4 @@
--- How sources and a plan are stored as data that can be told apart.
+-- How sources and a plan are encoded as data that can be told apart.
 use Rattle.std.specs.Prelude.{ℤ, List, refl}
 use Rattle.std.specs.Coded.{Coded, code_by, coded×, coded_ℤ, coded_list}
 use Rattle.bb_schema.specs.Schema.{Schema}

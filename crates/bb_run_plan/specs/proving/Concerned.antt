@@ -8,11 +8,11 @@ use Rattle.bb_rules.specs.Parts.{Source}
 use Rattle.bb_run_plan.specs.Concerned.{concerned}
 use Rattle.bb_run_plan.specs.declared.concerned.Concerned.{Concerned}
 
--- the places that are kept for the kind of an event
+-- the places kept for the kind of an event
 abbrev pub places_for : Concerned → Event → List ℕ
 places_for c (events.Change unit of change) = ids_for c.changes (kind_of change)
 places_for c events.Quiescence = c.quiescence
 
--- for each event the places of those of the sources are kept that it concerns
+-- for every event, the kept places are those of the sources that it concerns
 abbrev pub AreConcerned : List Source → Concerned → Type 0
 AreConcerned sources c = (event : Event) → places_for c event ≡ concerned event sources

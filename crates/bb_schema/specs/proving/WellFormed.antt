@@ -1,4 +1,4 @@
--- What holds of the parts of every schema.
+-- The invariant of schemas.
 use Rattle.std.specs.Prelude.{◌≡◌, ℕ, Bool, List, Option, length, is_some, unwrap_or}
 use Rattle.bb_schema_classes.specs.declared.span.Span.{Span}
 use Rattle.bb_schema_classes.specs.Spans.{AreSpans}
@@ -6,11 +6,11 @@ use Rattle.bb_schema.specs.Schema.{Schema}
 use Rattle.bb_schema.specs.Fits.{Fits}
 use Rattle.bb_schema.specs.Couples.{couples, counts}
 use Rattle.bb_schema.specs.Ownership.{owns_any, strikes}
-use Rattle.bb_schema_slots.specs.Heirs.{related_in}
-use Rattle.bb_schema_slots.specs.proving.Struck.{struck_at}
+use Rattle.bb_schema.specs.Heirs.{related_in}
+use Rattle.bb_schema.specs.proving.Struck.{struck_at}
 
--- what is kept of what a delete strikes: nothing where no slot owns, and where nothing is kept of two classes, one
--- strikes the other if they are related
+-- the kept table of what a delete strikes: there is one exactly if a slot owns; if it has no value for two classes, one
+-- strikes the other exactly if they are related
 pub record IsStruck (s : Schema) (struck : Option (List (List Bool))) : Type 0 where
   pub owning : is_some struck ≡ owns_any s
   pub tell : (d c : ℕ) → strikes s d c ≡ unwrap_or (struck_at struck d c) (related_in s.classes d c)

@@ -1,4 +1,4 @@
-//! The spaces of a schema, read one entry after another over the schema without spaces.
+//! The reader of spaces, entry by entry, for a schema without spaces. `Schema::read` calls it.
 
 ghost use Rattle.std.specs.Prelude.{◌≡◌, [], map, option_map, string_bytes};
 ghost use Rattle.std.specs.List.{list_all};
@@ -16,10 +16,10 @@ use bb_schema_classes::{ClassId, Kind, LabelSetId, ListKey, SchemaFault, SchemaF
 use bb_schema_form::{DimEntry, SpaceEntry};
 use std::alloc::Global;
 
-/// The greatest number of spaces.
+/// The maximum number of spaces.
 pub(crate) const SPACE_LIMIT: usize = 256;
 
-/// The greatest number of dimensions of a space.
+/// The maximum number of dimensions of a space.
 pub(crate) const DIM_LIMIT: usize = 16;
 
 #[tactic(auto, unfolding(crate::specs::SpaceReading::space_class_after, bb_schema_classes::specs::Inheritance::is_among))]
@@ -51,8 +51,8 @@ fn space_classes_of(alloc: Global, schema: &Schema, names: &[String]) -> Result<
     Ok(listed)
 }
 
-// Whether a dimension can read a slot of the kind: an ordered one numbers and intervals, an enumerated one labels of
-// its set.
+// Whether a dimension can read a slot of the kind. An ordered dimension reads numbers and intervals, an enumerated one
+// labels of its set.
 fn suits(set: Option<LabelSetId>, kind: Kind) -> bool
     ensures { result ≡ suits set kind }
 {
@@ -183,7 +183,7 @@ fn add_space(
     Ok(())
 }
 
-/// The spaces of all entries, over a schema that has none yet.
+/// Returns the spaces of all entries, for a schema that has none yet, or the first fault.
 pub(crate) fn spaces_of(
     alloc: Global,
     schema: &Schema,

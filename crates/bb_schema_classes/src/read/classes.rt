@@ -1,4 +1,4 @@
-//! The classes of a schema, read one entry after another.
+//! The reader of classes, entry by entry. `Walked::of` calls it.
 
 ghost use Rattle.std.specs.Prelude.{◌≡◌, [], map, option_map, string_bytes, IfOk};
 ghost use Rattle.bb_basis.specs.Results.{Gives};
@@ -19,7 +19,7 @@ use bb_schema_form::{ClassEntry, ListKey};
 use std::alloc::{AllocError, Global};
 use std::mem;
 
-/// The greatest number of classes, with `focus`.
+/// The maximum number of classes, `focus` included.
 pub const CLASS_LIMIT: usize = 256;
 
 fn parent_number(
@@ -39,7 +39,7 @@ fn parent_number(
     }
 }
 
-// The slots that a class has from its parent.
+// The slots that a class inherits from its parent.
 fn inherited_slots(
     alloc: Global,
     classes: &Table<Class>,
@@ -56,7 +56,7 @@ fn inherited_slots(
     }
 }
 
-// Adds the class of an entry, which is one of all.
+// Adds the class of an entry, which is one of `all`.
 #[tactic(auto, unfolding(crate::specs::ClassReading::class_after))]
 fn add_class(
     alloc: Global,
@@ -115,7 +115,7 @@ fn add_classes(
         slots: Items::new(alloc),
     };
     for (number, entry) in entries.iter().enumerate() {
-        // `focus`, of number 0, has no entry in the document.
+        // `focus`, number 0, has no entry in the document.
         placed(
             add_class(alloc, sets, all, &mut draft, entry),
             ListKey::Classes,
@@ -125,7 +125,7 @@ fn add_classes(
     Ok(draft)
 }
 
-/// The classes of all entries.
+/// Returns the classes of all entries, or the first fault.
 pub(crate) fn classes_of(
     alloc: Global,
     sets: &Table<LabelSet>,

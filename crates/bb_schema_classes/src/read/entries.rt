@@ -1,5 +1,5 @@
-//! The class entries of a document, and what each declares, by name. The reader of links looks up the class that a
-//! link leads to, and the link's inverse in it.
+//! The class entries of a document and the slots that each declares, found by name. The reader of links looks up a
+//! link's target class, and the link's inverse in that class.
 
 ghost use Rattle.std.specs.Prelude.{◌≡◌, map, slice_get, option_map, option_and_then, IfOk};
 ghost use Rattle.bb_schema_form.specs.Document.{class_declaration, link_declaration};
@@ -11,13 +11,13 @@ use std::alloc::{AllocError, Global};
 use std::collections::BTreeMap;
 use std::marker::Model;
 
-/// A class entry, with its slots and links found by name without a scan. Of a name that is declared twice the first
-/// counts.
+/// A class entry, with its slots and links found by name without a scan. If a name is declared twice, the first
+/// declaration counts.
 pub(crate) struct ClassIndex<'a> {
     entry: &'a ClassEntry,
-    // The index of the first slot of each name.
+    // The index of the first slot with each name.
     slots: BTreeMap<&'a str, usize>,
-    // The index of the first link of each name.
+    // The index of the first link with each name.
     links: BTreeMap<&'a str, usize>,
 }
 
@@ -33,7 +33,7 @@ impl<'a> Model for ClassIndex<'a> {
     ghost invariant = { λ c. IsClassIndex c.slots c.links (class_declaration c.entry.now) };
 }
 
-// By hand, so that a proof meets one call where an index is dropped, and not its parts.
+// By hand, so that proofs see a drop as one call, not one per part.
 impl<'a> Drop for ClassIndex<'a> {
     fn drop(self) {
         let ClassIndex {
@@ -63,7 +63,8 @@ impl<'a> ClassIndex<'a> {
         })
     }
 
-    /// The link slot of a name that the class itself declares. Ordinary slots come before link slots.
+    /// Returns the link slot with a name that the class itself declares. `None` if an ordinary slot of the class has
+    /// the name.
     pub(crate) fn link(&self, name: &str) -> Option<&'a LinkEntry>
         ensures { option_map (λ e. link_declaration e.now) result ≡ link_entry self.now name.now }
     {
@@ -74,11 +75,11 @@ impl<'a> ClassIndex<'a> {
     }
 }
 
-/// The class entries of a document, each found by its name without a scan. Of a name that is declared twice the first
-/// counts.
+/// The class entries of a document, each found by its name without a scan. If a name is declared twice, the first
+/// declaration counts.
 pub(crate) struct Entries<'a> {
     classes: Vec<ClassIndex<'a>>,
-    // The index of the first class of each name.
+    // The index of the first class with each name.
     places: BTreeMap<&'a str, usize>,
 }
 
@@ -136,7 +137,7 @@ impl<'a> Entries<'a> {
         Ok(Entries { classes, places })
     }
 
-    /// The first class of a name.
+    /// Returns the first class with a name, if there is one.
     pub(crate) fn named(&self, name: &str) -> Option<&ClassIndex<'a>>
         ensures { option_map (λ c. c.now) result ≡ first_named (λ c. c.name) name.now self.now }
     {

@@ -1,4 +1,4 @@
-//! The built-in class. `read.rt` reads its entry before those of the document.
+//! The built-in class. `read.rt` reads its entry before the entries of the document.
 
 ghost use Rattle.std.specs.Prelude.{◌≡◌, [], ◌∷◌, map, IfOk};
 ghost use Rattle.bb_schema_form.specs.Document.{class_declaration, slot_declaration, text_default};
@@ -39,7 +39,7 @@ fn focus(alloc: Global) -> Result<ClassEntry, AllocError>
     })
 }
 
-/// The classes of a document, after the built-in one.
+/// Returns the class entries of a document, preceded by the entry of the built-in class.
 pub(crate) fn with_focus(
     alloc: Global,
     entries: Vec<ClassEntry>,

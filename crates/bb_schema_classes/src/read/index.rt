@@ -1,4 +1,4 @@
-//! Indexes of named entries, each entry found without a scan. `entries.rt` keeps them.
+//! Indexes of named entries, which find an entry without a scan. `entries.rt` keeps them.
 
 ghost use Rattle.std.specs.Prelude.{◌≡◌, ℕ, List, ◌∷◌, [], ◌++◌, length, map, is_some, IfOk, OnOk};
 ghost use Rattle.bb_schema_classes.specs.proving.Entries.{indexed_place, IsIndex};
@@ -47,7 +47,7 @@ impl NamedEntry for LinkEntry {
     }
 }
 
-// Keeps the place of a name, unless an earlier place of it is kept.
+// Adds the place of a name, unless the index has an earlier place of that name.
 fn keep_first<'a>(
     places: &mut BTreeMap<&'a str, usize>,
     name: &'a str,
@@ -63,8 +63,8 @@ fn keep_first<'a>(
     Ok(())
 }
 
-/// The place of the first entry of each name. It goes by the order of the names and not by a hash, so that no choice
-/// of names makes it slow.
+/// Returns the place of the first entry with each name. The index is ordered by name instead of hashed, so that no
+/// choice of names makes it slow.
 pub(crate) fn first_places<'a, T: NamedEntry>(
     alloc: Global,
     entries: &'a [T],
@@ -78,14 +78,14 @@ pub(crate) fn first_places<'a, T: NamedEntry>(
     Ok(places)
 }
 
-/// The index of the first entry of a name.
+/// Returns the place of the first entry with a name, if there is one.
 pub(crate) fn indexed_place(places: &BTreeMap<&str, usize>, name: &str) -> Option<usize>
     ensures { result ≡ indexed_place places.now name.now }
 {
     places.get(name).copied()
 }
 
-/// Whether an entry has the name.
+/// Returns whether an entry has the name.
 pub(crate) fn is_indexed(places: &BTreeMap<&str, usize>, name: &str) -> bool
     ensures { result ≡ is_some (indexed_place places.now name.now) }
 {

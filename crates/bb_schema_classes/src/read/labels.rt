@@ -1,4 +1,4 @@
-//! The label sets of a schema, read one entry after another.
+//! The reader of label sets, entry by entry. `Walked::of` calls it.
 
 ghost use Rattle.std.specs.Prelude.{map, [], string_bytes};
 ghost use Rattle.bb_basis.specs.Results.{Gives, try_fold_at};
@@ -14,7 +14,7 @@ use bb_basis::{Table, Text, is_name};
 use bb_schema_form::{LabelSetEntry, ListKey};
 use std::alloc::Global;
 
-/// The greatest number of label sets.
+/// The maximum number of label sets.
 pub const LABEL_SET_LIMIT: usize = 256;
 
 #[tactic(auto, unfolding(crate::specs::LabelReading::label_after))]
@@ -73,7 +73,7 @@ fn add_label_set(
     Ok(())
 }
 
-/// The label sets of a document.
+/// Returns the label sets of all entries, or the first fault.
 pub(crate) fn label_sets_of(
     alloc: Global,
     entries: &[LabelSetEntry],

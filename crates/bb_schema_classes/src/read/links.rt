@@ -1,4 +1,4 @@
-//! The link slots of a class, read one entry after another.
+//! The reader of the link slots of a class, entry by entry. The reader of classes calls it.
 
 ghost use Rattle.std.specs.Prelude.{◌≡◌, IfOk, map};
 ghost use Rattle.bb_basis.specs.Results.{Gives, try_fold_at};
@@ -21,16 +21,16 @@ fn leads_to(link: &LinkEntry, class: &str, inverse: &str) -> bool
     link.to.as_str() == class && link.inverse.as_str() == inverse
 }
 
-// Whether a link owns nothing, or its inverse is singular and owns nothing. So a unit has one owner at most by a slot,
-// and is no owner of its owner by the same couple.
+// Whether a link owns nothing, or its inverse is singular and owns nothing. A unit then has at most one owner by a slot
+// and does not own its owner by the slot's inverse.
 fn may_own(link: &LinkEntry, back: &LinkEntry) -> bool
     ensures { result ≡ may_own (link_declaration link.now) (link_declaration back.now) }
 {
     !link.owns || (!back.many && !back.owns)
 }
 
-// Whether the class that a link leads to declares its inverse, another slot, which leads back and lets the link own
-// what it holds, if it does.
+// Whether the target class of a link declares its inverse: another slot, which leads back and allows the link to own,
+// if it does.
 fn leads_back(target: &ClassIndex, class: &str, link: &LinkEntry) -> bool
     ensures { result ≡ leads_back target.now class.now (link_declaration link.now) }
 {
@@ -55,7 +55,7 @@ fn drafted_link(alloc: Global, entry: &LinkEntry) -> Result<LinkDraft, AllocErro
     })
 }
 
-// Appends the link slot of an entry to the class `owner`.
+// Appends the link slot of an entry to the class `owner`, or returns the entry's fault.
 #[tactic(auto, unfolding(crate::specs::LinkReading::link_after))]
 fn add_link(
     alloc: Global,
@@ -93,7 +93,7 @@ fn add_link(
     Ok(())
 }
 
-/// Appends the link slots of some entries to the class `owner`.
+/// Appends the link slots of these entries to the class `owner`, or returns the first fault.
 pub(crate) fn add_links(
     alloc: Global,
     all: &Entries,

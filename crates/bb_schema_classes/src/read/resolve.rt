@@ -1,4 +1,4 @@
-//! The link of a slot, with numbers in place of names. It is known once all classes are read.
+//! The link of a slot, with numbers instead of names. bb_schema resolves links after all classes are read.
 
 ghost use Rattle.std.specs.Prelude.{◌≡◌, find};
 ghost use Rattle.bb_schema_classes.specs.Inheritance.{slots_in};
@@ -20,7 +20,7 @@ fn find_draft(slots: &[Draft], numbers: &[SlotId], name: &str) -> Option<SlotId>
         .find(|number| draft_has_name(slots, *number, name))
 }
 
-// The slot that a name refers to in a class.
+// The slot with a name in a class, inherited ones included.
 fn slot_named(classes: &Table<Class>, slots: &[Draft], class: ClassId, name: &str) -> Option<SlotId>
     ensures { result ≡ find (draft_has_name slots.now name.now) (slots_in classes.now class) }
 {
@@ -28,8 +28,8 @@ fn slot_named(classes: &Table<Class>, slots: &[Draft], class: ClassId, name: &st
     find_draft(slots, found.slots.as_slice(), name)
 }
 
-/// A link with the numbers of its class and of its inverse, a slot of that class, or `Unknown` or `Inverse` where one
-/// of them is not there. It allocates nothing.
+/// Returns a link with the numbers of its target class and of its inverse, a slot of that class. `Unknown` if the class
+/// is missing, `Inverse` if the inverse is. Allocates nothing.
 #[tactic(auto, unfolding(crate::specs::Resolution::resolved_link))]
 pub fn resolve_link(
     classes: &Table<Class>,

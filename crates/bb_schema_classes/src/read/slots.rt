@@ -1,4 +1,4 @@
-//! The ordinary slots of a class, read one entry after another.
+//! The reader of the ordinary slots of a class, entry by entry. The reader of classes calls it.
 
 ghost use Rattle.std.specs.Prelude.{◌≡◌, map, option_map, string_bytes};
 ghost use Rattle.bb_basis.specs.Results.{Gives, try_fold_at};
@@ -70,7 +70,7 @@ fn is_long(default: &DefaultEntry) -> bool
     }
 }
 
-// Appends the ordinary slot of an entry to the class of number `owner`.
+// Appends the ordinary slot of an entry to the class with number `owner`, or returns the entry's fault.
 #[tactic(auto, unfolding(crate::specs::SlotReading::slot_after))]
 fn add_slot(
     alloc: Global,
@@ -103,7 +103,7 @@ fn add_slot(
     Ok(())
 }
 
-/// Appends the ordinary slots of some entries to the class of number `owner`.
+/// Appends the ordinary slots of these entries to the class with number `owner`, or returns the first fault.
 pub(crate) fn add_slots(
     alloc: Global,
     sets: &Table<LabelSet>,

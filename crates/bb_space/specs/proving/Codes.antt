@@ -1,4 +1,4 @@
--- How spaces are stored as data that can be told apart.
+-- How spaces are encoded as data that can be compared.
 use Rattle.std.specs.Prelude.{◌≡◌, ℕ, ℤ, ◌⊎◌, List, refl}
 use Rattle.std.proofs.Common.{inl, inr}
 use Rattle.std.specs.FinMap as fin

@@ -1,4 +1,4 @@
--- The members of the entries that the code keeps.
+-- The members that the code's entries represent.
 use Rattle.std.specs.Prelude.{ℕ, List}
 use Rattle.std.specs.FinMap as fin
 use Rattle.bb_pattern.specs.declared.value.DimValue.{DimValue}

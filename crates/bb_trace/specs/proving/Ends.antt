@@ -1,10 +1,11 @@
--- The ends of the code's runs among those of the definitions, and how these are stored as data that can be told apart.
+-- The ends of the code's runs among those of the definitions, and how the latter are encoded as data that can be told
+-- apart.
 use Rattle.std.specs.Prelude.{◌≡◌, ◌⊎◌, ℕ, ℤ, zero, suc}
 use Rattle.std.proofs.Common.{inl, inr, refl}
 use Rattle.std.specs.Coded.{Coded, code_by, coded⊎, coded×, coded_ℕ, coded_ℤ}
-use Rattle.bb_agenda.specs.Activation.{Activation}
-use Rattle.bb_machine_state.specs.declared.outcome.Stuck.{Stuck as Reason}
-use Rattle.bb_machine_state.specs.contracts.outcome.Stuck as reasons
+use Rattle.bb_agenda.specs.declared.focusing.activation.Activation.{Activation}
+use Rattle.bb_machine.specs.declared.outcome.Stuck.{Stuck as Reason}
+use Rattle.bb_machine.specs.contracts.outcome.Stuck as reasons
 use Rattle.bb_trace.specs.declared.end.EndKind.{EndKind}
 use Rattle.bb_trace.specs.declared.end.EndKind.TheVariants as kinds
 use Rattle.bb_trace.specs.End.{End, Quiescence, Limit, Full, Due, Stuck}

@@ -1,4 +1,4 @@
--- An end gives its kind back.
+-- An end of the code is recovered from its end in the definitions.
 use Rattle.std.specs.Prelude.{◌≡◌}
 use Rattle.std.proofs.Common.{ap}
 use Rattle.bb_trace.specs.declared.end.EndKind.{EndKind}

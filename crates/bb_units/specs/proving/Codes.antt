@@ -1,4 +1,4 @@
--- How units are stored as data that can be told apart.
+-- How units are encoded as data that can be compared.
 use Rattle.std.specs.Prelude.{◌≡◌, ℕ, ℤ, Bool, ◌⊎◌, List, Option, refl}
 use Rattle.std.proofs.Common.{inl, inr}
 use Rattle.std.specs.Ordering.{nat_cmp}

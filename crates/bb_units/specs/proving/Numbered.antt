@@ -1,5 +1,5 @@
--- The live units by their numbers: a list gives each number a key, and a slab has the unit under it. No public clause
--- cites it.
+-- The live units by their numbers: a list gives each number a key, and a slab stores the unit under that key. No public
+-- clause cites it.
 use Rattle.std.specs.Prelude.{◌≡◌, ℕ, ◌+◌, ◌<◌, ◌==◌, List, map as list_map, Option, Some, option_map, option_and_then}
 use Rattle.std.specs.Prelude.{slice_get, position}
 use Rattle.std.specs.List.{AllByRecursion, filter_map}
@@ -22,7 +22,7 @@ pub record Given : Type 0 where
 abbrev pub none_given : Given
 none_given = record { next = 1; units = map.empty }
 
--- the live units with one more, under the next number
+-- the live units with a new one, under the next number
 abbrev pub one_given : Given → Unit → Given
 one_given g x = record { next = g.next + 1; units = map.insert g.units g.next x }
 
@@ -34,15 +34,15 @@ one_gone g n = record { next = g.next; units = map.remove g.units n }
 abbrev pub one_set : Given → ℕ → ℕ → Value → Given
 one_set g n slot value = record { next = g.next; units = with_value_of g.units n slot value }
 
--- the slab that has the units
+-- the slab that stores the units
 abbrev pub UnitSlab : Type 0
 UnitSlab = Slab Unit
 
--- what the numbers have, without the gaps
+-- each number with its contents, without the gaps
 abbrev pub held : {X : Type 0} → List (ℕ × Option X) → List (ℕ × X)
 held entries = filter_map (λ e. option_map (λ x. (e.0, x)) e.1) entries
 
--- each number with the unit that the slab has under its key
+-- each number with the unit under its key in the slab
 abbrev pub stored : UnitSlab → List (ℕ × Option ℕ) → List (ℕ × Option Unit)
 stored s entries = list_map (λ e. (e.0, option_and_then (get s) e.1)) entries
 
@@ -62,7 +62,7 @@ slab_set s key slot value = option_map_or (λ x. with_value s key (with_slot x s
 abbrev pub Rise : {X : Type 0} → List (ℕ × Option X) → Type 0
 Rise entries = IsStrictlySortedBy nat_cmp (keys_of entries)
 
--- the entry of the number stands at the place
+-- the entry at the place has the number
 abbrev pub IsAt : List (ℕ × Option ℕ) → ℕ → ℕ → Type 0
 IsAt entries place n = option_map (λ e. e.0) (slice_get entries place) ≡ Some n
 
@@ -77,13 +77,13 @@ key_in n entries = option_and_then (λ key. key) (lookup (λ k. n == k) entries)
 abbrev pub with_entry : ℕ → List (ℕ × Option ℕ) → Option ℕ → List (ℕ × Option ℕ)
 with_entry n entries key = set_value (λ k. n == k) entries key
 
--- each key is of one number, and the slab has a unit under it
+-- each key belongs to one number, and the slab has a unit under it
 pub record AreKept (entries : List (ℕ × Option ℕ)) (s : UnitSlab) : Type 0 where
   pub owner : ℕ → ℕ
   pub owned : (n key : ℕ) → key_in n entries ≡ Some key → owner key ≡ n
   pub there : (n key : ℕ) → key_in n entries ≡ Some key → ContainsKey s key
 
--- what holds of the entries and the units that the code keeps
+-- the invariant of the entries and the units that the code keeps
 pub record AreNumbered (next : ℕ) (entries : List (ℕ × Option ℕ)) (s : UnitSlab) : Type 0 where
   pub rise : Rise entries
   pub below : AllByRecursion (λ n. n < next) (keys_of entries)
@@ -91,7 +91,7 @@ pub record AreNumbered (next : ℕ) (entries : List (ℕ × Option ℕ)) (s : Un
   -- the slab has no other units
   pub counted : map.len (units_in s entries) ≡ slab_len s
 
--- where numbers have their units by the old entries, they have the same by the new ones
+-- whenever the old entries are valid, the new ones are too, and give each number the same unit
 abbrev pub HaveSame : List (ℕ × Option ℕ) → List (ℕ × Option ℕ) → Type 0
 HaveSame old new =
     (next : ℕ) (s : UnitSlab) → AreNumbered next old s → AreNumbered next new s × (units_in s new ≡ units_in s old)

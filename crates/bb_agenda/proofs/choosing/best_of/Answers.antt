@@ -5,10 +5,10 @@ use Rattle.std.specs.Int.{w128}
 use Rattle.std.proofs.lemmas.Int.{to_z-of_z}
 use Rattle.std.proofs.lemmas.Option.{slice_get_read}
 use Rattle.std.specs.FinMap as fin
-use Rattle.bb_agenda_foci.specs.Rating.{total_weight}
+use Rattle.bb_agenda.specs.focusing.Rating.{total_weight}
 use Rattle.bb_agenda.specs.declared.choosing.Candidate.{Candidate}
 use Rattle.bb_agenda.specs.proving.Best.{rate_by, better}
-use Rattle.bb_agenda_foci.specs.Matching.{matches_at}
+use Rattle.bb_agenda.specs.focusing.Matching.{matches_at}
 use Rattle.bb_agenda.proofs.BestLemmas.{rate_is, best_same, best_more, best_all, no_keys, it_stands}
 use Rattle.bb_agenda.proofs.choosing.best_of.Goals as goal
 

@@ -1,8 +1,8 @@
 use Rattle.std.proofs.Common.{[], ◌∷◌, length, arith, sym, ap, ◌∙◌, append_assoc}
-use Rattle.bb_code_ops.specs.View.{tree_of, trees_of}
-use Rattle.bb_code_ops.proofs.Laws.{parts_below_and, parts_below_or}
+use Rattle.bb_pattern.specs.View.{tree_of, trees_of}
+use Rattle.bb_code.proofs.OpsLaws.{parts_below_and, parts_below_or}
 use Rattle.bb_code.specs.Spelling.{trees_bytes}
-use Rattle.bb_code.proofs.Parts.{few_of_and, few_of_or, few_parts, part_count-length}
+use Rattle.bb_code.proofs.PartsLemmas.{few_of_and, few_of_or, few_parts, part_count-length}
 use Rattle.bb_code.proofs.encode.+putting.Goals as goal
 
 pub put_pattern-put_parts-requires : goal.put_pattern-put_parts-requires

@@ -1,6 +1,6 @@
 use Rattle.std.proofs.Common.{◌≡◌, ◌∷◌, ◌++◌, ◌<◌, drop}
-use Rattle.bb_code_ops.specs.Trees.{nodes_count}
-use Rattle.bb_code_ops.specs.View.{trees_of}
+use Rattle.bb_pattern.specs.Trees.{nodes_count}
+use Rattle.bb_pattern.specs.View.{trees_of}
 use Rattle.bb_code.specs.Spelling.{part_count, trees_bytes}
 use Rattle.bb_code.proofs.encode.+putting.Given as goal
 

@@ -1,6 +1,6 @@
 use Rattle.std.proofs.Common.{◌∙◌, sym, rules}
 use Rattle.std.proofs.lemmas.Result.{err_from_is_err_and}
-use Rattle.bb_lang_token.specs.declared.fault.LangFault.TheVariants.{Memory}
+use Rattle.bb_lang_tree.specs.declared.fault.LangFault.TheVariants.{Memory}
 use Rattle.bb_lang.specs.Sources.{next_clause}
 use Rattle.bb_lang.proofs.RepeatLemmas.{repeat_more, repeat_stop, repeat_error, repeat_end}
 use Rattle.bb_lang.proofs.ClauseLemmas.{clauses_begin}

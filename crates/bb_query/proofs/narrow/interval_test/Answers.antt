@@ -2,7 +2,7 @@ use Rattle.std.proofs.Common.{◌≡◌, sym, subst, Some, slice_get, rules, w64
 use Rattle.std.proofs.lemmas.Int.{to_z-of_z}
 use Rattle.bb_pattern.specs.declared.value.DimValue.TheVariants.{Interval}
 use Rattle.bb_pattern.specs.Holds.{ordered_holds}
-use Rattle.bb_space_index.specs.declared.leaf.Leaf.TheVariants.{Ordered}
+use Rattle.bb_space.specs.declared.index.leaf.Leaf.TheVariants.{Ordered}
 use Rattle.bb_query.specs.proving.Tests.{Asks}
 use Rattle.bb_query.proofs.NarrowLemmas.{interval_asks}
 use Rattle.bb_query.proofs.narrow.interval_test.Goals as goal

@@ -1,7 +1,7 @@
 use Rattle.std.proofs.Common.{◌≡◌, sym, subst, Some, slice_get, rules}
 use Rattle.bb_pattern.specs.declared.value.DimValue.TheVariants.{Label}
 use Rattle.bb_pattern.specs.Holds.{is_holds}
-use Rattle.bb_space_index.specs.declared.leaf.Leaf.TheVariants.{Is}
+use Rattle.bb_space.specs.declared.index.leaf.Leaf.TheVariants.{Is}
 use Rattle.bb_query.specs.proving.Tests.{Asks}
 use Rattle.bb_query.proofs.NarrowLemmas.{label_asks}
 use Rattle.bb_query.proofs.narrow.label_test.Goals as goal

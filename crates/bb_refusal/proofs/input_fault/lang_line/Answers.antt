@@ -2,7 +2,7 @@ use Rattle.std.proofs.Common.{◌≡◌, [], subst, sym, ap, ◌∙◌}
 use Rattle.std.specs.Prelude.{◌++◌, codes, IfOk, string_bytes}
 use Rattle.std.specs.Fmt.{decimal}
 use Rattle.std.specs.Option.{option_map_or}
-use Rattle.bb_lang_token.specs.Faults.{fault_number as lang_number}
+use Rattle.bb_lang_tree.specs.Faults.{fault_number as lang_number}
 use Rattle.bb_refusal.specs.Refusals.{place_text}
 use Rattle.bb_refusal.proofs.RefusalLemmas.{five_pieces}
 use Rattle.bb_refusal.proofs.input_fault.lang_line.Goals as goal

@@ -3,7 +3,7 @@ use Rattle.bb_exec.specs.declared.stop.Stop.{Stop}
 use Rattle.bb_rules.specs.Questions.{IsQuestion}
 use Rattle.bb_run.specs.Asking.{attempt}
 use Rattle.bb_run.specs.Emitting.{Attempts}
-use Rattle.bb_run.proofs.ReadLemmas.{asked_kept}
+use Rattle.bb_run.proofs.keeping.ReadLemmas.{asked_kept}
 use Rattle.bb_run.proofs.asking.ask.Goals as goal
 
 pub returns-in-Ok-clause-kept : goal.returns-in-Ok-clause-kept

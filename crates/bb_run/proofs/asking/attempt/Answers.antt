@@ -1,5 +1,5 @@
 use Rattle.bb_run.specs.Asking.{attempt}
-use Rattle.bb_run.proofs.ExecutionLemmas.{attempted_by}
+use Rattle.bb_run.proofs.emitting.ExecutionLemmas.{attempted_by}
 use Rattle.bb_run.proofs.asking.attempt.Goals as goal
 
 pub returns-clause-attempted : goal.returns-clause-attempted

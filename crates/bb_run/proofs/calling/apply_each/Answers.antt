@@ -3,7 +3,7 @@ use Rattle.std.proofs.lemmas.List.{nil_from_length}
 use Rattle.std.specs.Vec.Iter.{into_iter_items}
 use Rattle.bb_run.specs.Run.{each_applied}
 use Rattle.bb_run.specs.Seen.{seen}
-use Rattle.bb_run.proofs.CallLemmas.{ask_made, ask_over, asks_begin, asks_done}
+use Rattle.bb_run.proofs.responding.CallLemmas.{ask_made, ask_over, asks_begin, asks_done}
 use Rattle.bb_run.proofs.calling.apply_each.Goals as goal
 
 pub loop-ask-init : goal.loop-ask-init

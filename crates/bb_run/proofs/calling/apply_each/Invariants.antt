@@ -2,7 +2,7 @@ use Rattle.std.proofs.Common.{◌≡◌, ◌+◌, length}
 use Rattle.std.specs.Vec.Iter.{into_iter_items}
 use Rattle.bb_run.specs.Run.{each_applied}
 use Rattle.bb_run.specs.Seen.{seen}
-use Rattle.bb_run.proofs.ResponseLemmas.{HasNoted}
+use Rattle.bb_run.proofs.responding.ResponseLemmas.{HasNoted}
 use Rattle.bb_run.proofs.calling.apply_each.Given as goal
 
 abbrev pub invariant-loop-ask : goal.invariant-loop-ask

@@ -1,7 +1,7 @@
 use Rattle.std.proofs.Common.{◌≡◌, arith, length}
 use Rattle.bb_trace.specs.declared.note.Note.TheVariants.{PostEnded}
 use Rattle.bb_run.specs.Seen.{seen}
-use Rattle.bb_run.proofs.CallLemmas.{asked_made, asked_over}
+use Rattle.bb_run.proofs.responding.CallLemmas.{asked_made, asked_over}
 use Rattle.bb_run.proofs.calling.apply_posted.Goals as goal
 
 pub returns-in-Some : goal.returns-in-Some

@@ -2,7 +2,7 @@ use Rattle.std.proofs.Common.{◌∙◌, ap, map}
 use Rattle.std.proofs.lemmas.Result.{IfOk-weaker}
 use Rattle.bb_trace.specs.Roster.{after_act_at, asks_at}
 use Rattle.bb_run.specs.Seen.{seen}
-use Rattle.bb_run.proofs.CallLemmas.{called_as}
+use Rattle.bb_run.proofs.responding.CallLemmas.{called_as}
 use Rattle.bb_run.proofs.calling.call.Goals as goal
 
 pub returns : goal.returns

@@ -3,7 +3,7 @@ use Rattle.bb_agenda.specs.Agenda.{pending_of}
 use Rattle.bb_agenda.specs.Chosen.{chosen}
 use Rattle.bb_agenda.specs.Rating.{rating_in}
 use Rattle.bb_run.specs.Seen.{seen}
-use Rattle.bb_run.proofs.WeighLemmas.{choice_known}
+use Rattle.bb_run.proofs.keeping.WeighLemmas.{choice_known}
 use Rattle.bb_run.proofs.cycles.choose.Goals as goal
 
 pub returns-in_err-number : goal.returns-in_err-number

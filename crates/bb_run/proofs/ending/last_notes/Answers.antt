@@ -1,7 +1,7 @@
 use Rattle.std.proofs.Common.{◌∙◌, ◌∷◌, map, sym}
 use Rattle.std.specs.Vec.Iter.{into_iter_items}
 use Rattle.bb_trace.specs.declared.note.Note.TheVariants.{Closed, Finished}
-use Rattle.bb_run.proofs.WholeLemmas.{all_moved}
+use Rattle.bb_run.proofs.emitting.WholeLemmas.{all_moved}
 use Rattle.bb_run.proofs.ending.last_notes.Goals as goal
 
 pub returns : goal.returns

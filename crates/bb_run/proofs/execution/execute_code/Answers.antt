@@ -1,6 +1,6 @@
 use Rattle.std.proofs.Common.{◌∷◌, [], None, Some, Ok, Err, subst}
 use Rattle.bb_exec.specs.declared.stop.Stop.{Stop}
-use Rattle.bb_machine.specs.Stop.TheVariants as stops
+use Rattle.bb_theorem_machine.specs.Stop.TheVariants as stops
 use Rattle.bb_trace.specs.End as ends
 use Rattle.bb_trace.specs.declared.note.Note.TheVariants.{Ended}
 use Rattle.bb_run.specs.Asking.{attempt}
@@ -8,7 +8,7 @@ use Rattle.bb_run.specs.State.{with_board}
 use Rattle.bb_run.specs.Run.{noted}
 use Rattle.bb_run.specs.Seen.{seen}
 use Rattle.bb_run.specs.Emitting.{Attempts, IsResponse}
-use Rattle.bb_run.proofs.ExecutionLemmas.{execution_noted}
+use Rattle.bb_run.proofs.emitting.ExecutionLemmas.{execution_noted}
 use Rattle.bb_run.proofs.execution.execute_code.Goals as goal
 
 pub returns-in_ok-take_noted-in-Ok : goal.returns-in_ok-take_noted-in-Ok

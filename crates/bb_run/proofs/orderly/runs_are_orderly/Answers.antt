@@ -1,17 +1,17 @@
-use Rattle.bb_run.proofs.OrderlyRuns.{run_finishes, run_keeps_limit, run_chooses}
-use Rattle.bb_run.proofs.LimitLemmas.{run_extends}
-use Rattle.bb_run.proofs.ExecutedLemmas.{run_is_followed}
-use Rattle.bb_run.proofs.PhasedRuns.{run_goes_by_phases}
-use Rattle.bb_run.proofs.ClosedLemmas.{run_closes_each}
-use Rattle.bb_run.proofs.CauseLemmas.{run_has_cause}
-use Rattle.bb_run.proofs.ReadLemmas.{plan_reads_only}
-use Rattle.bb_run.proofs.UnstuckRuns.{run_is_unstuck, run_ready, state_begins}
-use Rattle.bb_run.proofs.WeighLemmas.{run_knows_foci}
-use Rattle.bb_run.proofs.RespondLemmas.{run_answers}
-use Rattle.bb_run.proofs.RestLemmas.{run_answers_first, run_answers_quiescence}
-use Rattle.bb_run.proofs.ContinueLemmas.{run_begins_with, run_continues}
-use Rattle.bb_run.proofs.ActLemmas.{act_is_done}
-use Rattle.bb_run.proofs.FewLemmas.{run_has_few}
+use Rattle.bb_run.proofs.notes.OrderlyRuns.{run_finishes, run_keeps_limit, run_chooses}
+use Rattle.bb_run.proofs.stretches.LimitLemmas.{run_extends}
+use Rattle.bb_run.proofs.coming.ExecutedLemmas.{run_is_followed}
+use Rattle.bb_run.proofs.phases.PhasedRuns.{run_goes_by_phases}
+use Rattle.bb_run.proofs.natives.ClosedLemmas.{run_closes_each}
+use Rattle.bb_run.proofs.natives.CauseLemmas.{run_has_cause}
+use Rattle.bb_run.proofs.keeping.ReadLemmas.{plan_reads_only}
+use Rattle.bb_run.proofs.serving.UnstuckRuns.{run_is_unstuck, run_ready, state_begins}
+use Rattle.bb_run.proofs.keeping.WeighLemmas.{run_knows_foci}
+use Rattle.bb_run.proofs.coming.RespondLemmas.{run_answers}
+use Rattle.bb_run.proofs.coming.RestLemmas.{run_answers_first, run_answers_quiescence}
+use Rattle.bb_run.proofs.coming.ContinueLemmas.{run_begins_with, run_continues}
+use Rattle.bb_run.proofs.coming.ActLemmas.{act_is_done}
+use Rattle.bb_run.proofs.keeping.FewLemmas.{run_has_few}
 use Rattle.bb_run.proofs.orderly.runs_are_orderly.Goals as goal
 
 pub returns : goal.returns

@@ -1,5 +1,5 @@
 use Rattle.bb_run.specs.Seen.{seen}
-use Rattle.bb_run.proofs.ResponseLemmas.{none_responds, one_responds}
+use Rattle.bb_run.proofs.responding.ResponseLemmas.{none_responds, one_responds}
 use Rattle.bb_run.proofs.processing.place_responds.Goals as goal
 
 pub returns-in-None : goal.returns-in-None

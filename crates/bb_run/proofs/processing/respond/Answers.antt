@@ -2,8 +2,8 @@ use Rattle.std.proofs.Common.{subst, sym}
 use Rattle.bb_run.specs.Processing.{response}
 use Rattle.bb_run.specs.Seen.{seen}
 use Rattle.bb_run.specs.Serving.{ServesAt}
-use Rattle.bb_run.proofs.ServeLemmas.{serves_at}
-use Rattle.bb_run.proofs.ResponseLemmas.{begun_at, place_made, place_over, places_done}
+use Rattle.bb_run.proofs.serving.ServeLemmas.{serves_at}
+use Rattle.bb_run.proofs.responding.ResponseLemmas.{begun_at, place_made, place_over, places_done}
 use Rattle.bb_run.proofs.processing.respond.Goals as goal
 
 pub loop-place-init : goal.loop-place-init

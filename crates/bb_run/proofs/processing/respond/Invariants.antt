@@ -3,7 +3,7 @@ use Rattle.bb_run.specs.Processing.{response}
 use Rattle.bb_run.specs.proving.Responding.{responses_at}
 use Rattle.bb_run.specs.Seen.{seen}
 use Rattle.bb_run.specs.Serving.{ServesAt}
-use Rattle.bb_run.proofs.ResponseLemmas.{HasNoted}
+use Rattle.bb_run.proofs.responding.ResponseLemmas.{HasNoted}
 use Rattle.bb_run.proofs.processing.respond.Given as goal
 
 abbrev pub invariant-loop-place : goal.invariant-loop-place

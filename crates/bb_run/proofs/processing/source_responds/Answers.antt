@@ -4,7 +4,7 @@ use Rattle.bb_trace.specs.Match.{any_match}
 use Rattle.bb_run.specs.Processing.{obviated_by, reacting, rerated_by}
 use Rattle.bb_run.specs.Seen.{seen}
 use Rattle.bb_run.specs.Serving.{ServesAt}
-use Rattle.bb_run.proofs.ServeLemmas.{can_require, obviates_all, retriggers_all, serves_obviated, serves_retriggered}
+use Rattle.bb_run.proofs.serving.ServeLemmas.{can_require, obviates_all, retriggers_all, serves_obviated, serves_retriggered}
 use Rattle.bb_run.proofs.processing.source_responds.Goals as goal
 
 pub obviate-requires : goal.obviate-requires

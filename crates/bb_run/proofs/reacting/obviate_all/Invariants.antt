@@ -4,7 +4,7 @@ use Rattle.bb_agenda.specs.Agenda.{pending_for}
 use Rattle.bb_run.specs.Processing.{obviated_by, reacting_to_each}
 use Rattle.bb_run.specs.Seen.{seen}
 use Rattle.bb_run.specs.Serving.{ReactsToAll}
-use Rattle.bb_run.proofs.ResponseLemmas.{HasNoted}
+use Rattle.bb_run.proofs.responding.ResponseLemmas.{HasNoted}
 use Rattle.bb_run.proofs.reacting.obviate_all.Given as goal
 
 abbrev pub invariant-loop-activation : goal.invariant-loop-activation

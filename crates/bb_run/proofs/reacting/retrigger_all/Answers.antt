@@ -6,9 +6,9 @@ use Rattle.bb_run.specs.Processing.{rerated_by, reacting_to_each}
 use Rattle.bb_trace.specs.Board.{Board as Blackboard}
 use Rattle.bb_run.specs.Seen.{seen}
 use Rattle.bb_run.specs.Serving.{ReactsTo}
-use Rattle.bb_run.proofs.OwnLemmas.{rerating_ignores}
-use Rattle.bb_run.proofs.ResponseLemmas.{activation_made, activation_over, activations_done, begun_with}
-use Rattle.bb_run.proofs.ServeLemmas.{asked_all, first_all, rest_all}
+use Rattle.bb_run.proofs.responding.OwnLemmas.{rerating_ignores}
+use Rattle.bb_run.proofs.responding.ResponseLemmas.{activation_made, activation_over, activations_done, begun_with}
+use Rattle.bb_run.proofs.serving.ServeLemmas.{asked_all, first_all, rest_all}
 use Rattle.bb_run.proofs.reacting.retrigger_all.Goals as goal
 
 pub loop-activation-init : goal.loop-activation-init

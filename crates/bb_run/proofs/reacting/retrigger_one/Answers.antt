@@ -5,7 +5,7 @@ use Rattle.bb_run.specs.Asking.{entry_of}
 use Rattle.bb_run.specs.Processing.{rerated_by}
 use Rattle.bb_run.specs.State.{with_board}
 use Rattle.bb_run.specs.Seen.{seen}
-use Rattle.bb_run.proofs.ExecutionLemmas.{reply_noted}
+use Rattle.bb_run.proofs.emitting.ExecutionLemmas.{reply_noted}
 use Rattle.bb_run.proofs.reacting.retrigger_one.Goals as goal
 
 pub returns-in_ok-rerate-in-Answer-clause-noted : goal.returns-in_ok-rerate-in-Answer-clause-noted

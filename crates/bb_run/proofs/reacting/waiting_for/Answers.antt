@@ -1,8 +1,8 @@
 use Rattle.std.proofs.Common.{◌≤◌, ◌∙◌, ◌∷◌, [], ◌++◌, List, ap, arith, length}
 use Rattle.std.proofs.lemmas.List.{take_all}
-use Rattle.bb_agenda.specs.Activation.{Activation}
+use Rattle.bb_agenda.specs.declared.focusing.activation.Activation.{Activation}
 use Rattle.bb_agenda.specs.Agenda.{pending_for}
-use Rattle.bb_run.proofs.WaitingLemmas.{next_pends, one_more, waiting_length}
+use Rattle.bb_run.proofs.responding.WaitingLemmas.{next_pends, one_more, waiting_length}
 use Rattle.bb_run.proofs.reacting.waiting_for.Goals as goal
 
 pub activation-requires : goal.activation-requires

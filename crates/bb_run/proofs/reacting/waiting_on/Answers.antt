@@ -1,9 +1,9 @@
 use Rattle.std.proofs.Common.{rules, ◌≡◌, ◌≤◌, ◌∙◌, ◌∷◌, [], ◌++◌, true, false, List, ap, arith, filter, length}
 use Rattle.std.proofs.lemmas.List.{take_all}
-use Rattle.bb_agenda.specs.Activation.{Activation}
+use Rattle.bb_agenda.specs.declared.focusing.activation.Activation.{Activation}
 use Rattle.bb_agenda.specs.Agenda.{is_of, pending_on}
 use Rattle.bb_agenda.proofs.Laws.{pending_turned}
-use Rattle.bb_run.proofs.WaitingLemmas.{next_pends, one_kept, one_skipped, waiting_length}
+use Rattle.bb_run.proofs.responding.WaitingLemmas.{next_pends, one_kept, one_skipped, waiting_length}
 use Rattle.bb_run.proofs.reacting.waiting_on.Goals as goal
 
 pub activation-activation-requires : goal.activation-activation-requires

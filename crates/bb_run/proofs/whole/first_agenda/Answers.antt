@@ -1,4 +1,4 @@
-use Rattle.bb_run.proofs.ReadLemmas.{plan_reads}
+use Rattle.bb_run.proofs.keeping.ReadLemmas.{plan_reads}
 use Rattle.bb_run.proofs.whole.first_agenda.Goals as goal
 
 pub returns-clause-may : goal.returns-clause-may

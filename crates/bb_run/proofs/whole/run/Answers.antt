@@ -1,7 +1,7 @@
 use Rattle.std.proofs.Common.{map, subst}
 use Rattle.bb_run.specs.Run.{run}
 use Rattle.bb_run.specs.Emitting.{WroteFirst, WroteFront, WroteUntil}
-use Rattle.bb_run.proofs.WholeLemmas.{wrote_first, wrote_front}
+use Rattle.bb_run.proofs.emitting.WholeLemmas.{wrote_first, wrote_front}
 use Rattle.bb_run.proofs.whole.run.Goals as goal
 
 pub returns-in-Memory-clause-front : goal.returns-in-Memory-clause-front

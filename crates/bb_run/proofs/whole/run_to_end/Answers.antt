@@ -1,7 +1,7 @@
 use Rattle.std.proofs.Common.{map, subst}
 use Rattle.bb_run.specs.Unstuck.{NotDue}
-use Rattle.bb_run.proofs.DueLemmas.{run_not_due}
-use Rattle.bb_run.proofs.SteadyLemmas.{may_serve}
+use Rattle.bb_run.proofs.natives.DueLemmas.{run_not_due}
+use Rattle.bb_run.proofs.serving.SteadyLemmas.{may_serve}
 use Rattle.bb_run.proofs.whole.run_to_end.Goals as goal
 
 pub write_run-requires-clause-serves : goal.write_run-requires-clause-serves

@@ -1,7 +1,7 @@
 use Rattle.std.proofs.Common.{map}
 use Rattle.std.proofs.lemmas.Result.{err_from_is_err_and}
 use Rattle.bb_run.specs.Run.{run}
-use Rattle.bb_run.proofs.WholeLemmas.{none_written}
+use Rattle.bb_run.proofs.emitting.WholeLemmas.{none_written}
 use Rattle.bb_run.proofs.whole.write_run.Goals as goal
 
 pub returns-in_err-state-clause-written : goal.returns-in_err-state-clause-written

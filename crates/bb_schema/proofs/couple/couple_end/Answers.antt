@@ -1,6 +1,6 @@
 use Rattle.std.proofs.Common.{◌≡◌, ◌<◌, ap, arith, rules, ℕ, List, length, get_or}
 use Rattle.std.proofs.lemmas.Option.{get_or_from_slice_get}
-use Rattle.bb_schema_slots.specs.declared.slot.Slot.{Slot}
+use Rattle.bb_schema.specs.declared.slot.Slot.{Slot}
 use Rattle.bb_schema.specs.Couples.{counts, couple_number}
 use Rattle.bb_schema.proofs.CoupleLemmas.{couple_number_at, counts_long}
 use Rattle.bb_schema.proofs.couple.couple_end.Goals as goal

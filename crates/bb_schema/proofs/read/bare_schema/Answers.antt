@@ -4,9 +4,9 @@ use Rattle.bb_schema_classes.specs.declared.class.Class.{Class}
 use Rattle.bb_schema_classes.specs.declared.fault.SchemaFault.TheVariants.{Memory}
 use Rattle.bb_schema_classes.specs.declared.read.classes.TheConstants.{CLASS_LIMIT}
 use Rattle.bb_schema_classes.specs.Inheritance.{ParentsAreEarlier}
-use Rattle.bb_schema_slots.specs.declared.slot.Slot.{Slot}
+use Rattle.bb_schema.specs.declared.slot.Slot.{Slot}
 use Rattle.bb_schema.specs.Couples.{firsts, counts}
-use Rattle.bb_schema_slots.specs.proving.Struck.{struck_table}
+use Rattle.bb_schema.specs.proving.Struck.{struck_table}
 use Rattle.bb_schema.specs.proving.WellFormed.{IsStruck}
 use Rattle.bb_schema.proofs.OwnershipLemmas.{table_struck}
 use Rattle.bb_schema.proofs.LinkLemmas.{links_are_there}

@@ -1,5 +1,5 @@
 use Rattle.std.proofs.Common.{◌≡◌, drop}
-use Rattle.bb_space_index.specs.Leaf.{fit_each}
+use Rattle.bb_space.specs.index.Leaf.{fit_each}
 use Rattle.bb_space.proofs.passing.fit_each.Given as goal
 
 abbrev pub invariant-loop-leaf : goal.invariant-loop-leaf

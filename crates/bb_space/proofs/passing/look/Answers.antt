@@ -1,6 +1,6 @@
 use Rattle.std.proofs.Common.{◌≡◌, ◌∷◌, ◌∙◌, sym, ap, subst, rules}
 use Rattle.std.specs.declared.ops.Bound.TheVariants.{Included, Excluded}
-use Rattle.bb_space_index.specs.Leaf.{fit_each}
+use Rattle.bb_space.specs.index.Leaf.{fit_each}
 use Rattle.bb_space.specs.Passing.{passes}
 use Rattle.bb_space.specs.proving.Entries.{members_of_entries}
 use Rattle.bb_space.proofs.KnownLemmas.{AreEntries, known_more, passes_told, first_entry, other_entries, range_entries}

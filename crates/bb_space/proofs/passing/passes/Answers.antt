@@ -1,7 +1,7 @@
 use Rattle.std.proofs.Common.{◌∙◌, sym, ap, false}
 use Rattle.std.specs.Prelude.{option_map}
 use Rattle.std.specs.Option.{option_map_or}
-use Rattle.bb_space_index.specs.Leaf.{fit_each}
+use Rattle.bb_space.specs.index.Leaf.{fit_each}
 use Rattle.bb_basis.proofs.EntryLemmas.{get_is_lookup}
 use Rattle.bb_space.proofs.passing.passes.Goals as goal
 

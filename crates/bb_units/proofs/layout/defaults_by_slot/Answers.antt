@@ -1,6 +1,6 @@
 use Rattle.std.proofs.Common.{◌∙◌, sym, ap, subst, ◌<◌, Some}
-use Rattle.bb_schema_slots.specs.Slots.{default_in}
-use Rattle.bb_schema_slots.specs.declared.slot.Slot.{Slot}
+use Rattle.bb_schema.specs.Slots.{default_in}
+use Rattle.bb_schema.specs.declared.slot.Slot.{Slot}
 use Rattle.bb_units.proofs.LayoutLemmas.{made_one_more, option_there}
 use Rattle.bb_units.proofs.layout.defaults_by_slot.Goals as goal
 

@@ -1,6 +1,6 @@
 use Rattle.std.proofs.lemmas.Result.{err_from_is_err_and}
 use Rattle.bb_verify_effect.specs.Due.{sayable}
-use Rattle.bb_verify_frame.proofs.Laws.{each_next, each_error, each_end}
+use Rattle.bb_code.proofs.Laws.{each_next, each_error, each_end}
 use Rattle.bb_verify_effect.proofs.due.all_sayable.Goals as goal
 
 pub returns-in_err-sayable : goal.returns-in_err-sayable

@@ -1,5 +1,5 @@
 use Rattle.std.proofs.Common.{◌≡◌, drop}
-use Rattle.bb_verify_frame.specs.Each.{each}
+use Rattle.bb_code.specs.Each.{each}
 use Rattle.bb_verify_effect.specs.Due.{sayable}
 use Rattle.bb_verify_effect.proofs.due.all_sayable.Given as goal
 

@@ -1,10 +1,10 @@
 use Rattle.std.proofs.Common.{ap, refl, ◌∙◌, List, [], false}
 use Rattle.std.specs.FinMap as fin
-use Rattle.bb_agenda_foci.specs.declared.activation.Activation.{Activation}
+use Rattle.bb_agenda.specs.declared.focusing.activation.Activation.{Activation}
 use Rattle.bb_agenda.specs.Agenda.{Agenda, Entry}
 use Rattle.bb_agenda.specs.proving.Kept.{entries_of}
 use Rattle.bb_agenda.specs.proving.Numbers.{is_in}
-use Rattle.bb_agenda_foci.specs.Foci.{Steered}
+use Rattle.bb_agenda.specs.focusing.Foci.{Steered}
 use Rattle.bb_agenda.proofs.KeptLemmas.{kept_first, none_kept}
 use Rattle.bb_agenda.proofs.agenda.Agenda.new.Goals as goal
 

@@ -1,6 +1,6 @@
 use Rattle.std.proofs.Common.{rules, ◌+◌, ◌∙◌, ℤ, List, Err, Ok, cond, refl, ap, subst, sym, w64, to_z, of_z}
 use Rattle.std.proofs.lemmas.Int.{to_z-of_z}
-use Rattle.bb_agenda_foci.specs.declared.activation.Activation.{Activation}
+use Rattle.bb_agenda.specs.declared.focusing.activation.Activation.{Activation}
 use Rattle.bb_agenda.specs.declared.fault.AddFault.TheVariants.{Full}
 use Rattle.bb_agenda.specs.Agenda.{Agenda, is_full, next_number}
 use Rattle.bb_agenda.specs.Changes.{with_activation}

@@ -1,6 +1,6 @@
 use Rattle.std.proofs.Common.{◌∙◌, List, ℤ, map, ap, subst, sym, w64}
 use Rattle.std.proofs.lemmas.Int.{to_z-of_z}
-use Rattle.bb_agenda_foci.specs.declared.activation.Activation.{Activation}
+use Rattle.bb_agenda.specs.declared.focusing.activation.Activation.{Activation}
 use Rattle.bb_agenda.specs.Agenda.{Agenda, Entry}
 use Rattle.bb_agenda.specs.Changes.{with_base, rebased}
 use Rattle.bb_agenda.specs.proving.Kept.{IsKept, entries_of}

@@ -1,5 +1,5 @@
 use Rattle.std.proofs.Common.{◌∙◌, List, find, ap, subst, sym}
-use Rattle.bb_agenda_foci.specs.declared.activation.Activation.{Activation}
+use Rattle.bb_agenda.specs.declared.focusing.activation.Activation.{Activation}
 use Rattle.bb_agenda.specs.Agenda.{Agenda, Entry, obviated, has_number}
 use Rattle.bb_agenda.specs.Changes.{with_obviated}
 use Rattle.bb_agenda.specs.proving.Kept.{IsKept, entries_of}

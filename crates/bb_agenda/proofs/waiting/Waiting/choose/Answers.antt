@@ -8,11 +8,11 @@ use Rattle.std.proofs.lemmas.Int.{ints, to_z-of_z}
 use Rattle.bb_agenda.specs.declared.rank.Rank.{Rank}
 use Rattle.bb_agenda.specs.Agenda.{number_of, has_number}
 use Rattle.bb_agenda.specs.Chosen.{chosen}
-use Rattle.bb_agenda_foci.specs.Rating.{rating}
+use Rattle.bb_agenda.specs.focusing.Rating.{rating}
 use Rattle.bb_agenda.specs.proving.Best.{rate_by, StandsFor, IsFirst}
 use Rattle.bb_agenda.specs.proving.Ranks.{is_ranked}
 use Rattle.bb_agenda.proofs.ChoiceLemmas.{no_best, too_low, best_is}
-use Rattle.bb_agenda_foci.proofs.Laws.{rating_is}
+use Rattle.bb_agenda.proofs.focusing_lemmas.Laws.{rating_is}
 use Rattle.bb_agenda.proofs.waiting.Waiting.choose.Goals as goal
 
 pub returns-in_err-best-clause-number : goal.returns-in_err-best-clause-number

@@ -1,6 +1,6 @@
 use Rattle.std.proofs.Common.{◌≡◌, ◌∙◌, List, ℕ, Some, filter, find, ap, subst, sym}
 use Rattle.std.specs.Map.{values_of}
-use Rattle.bb_agenda_foci.specs.declared.activation.Activation.{Activation}
+use Rattle.bb_agenda.specs.declared.focusing.activation.Activation.{Activation}
 use Rattle.bb_agenda.specs.Agenda.{has_number}
 use Rattle.bb_agenda.specs.Changes.{other_than}
 use Rattle.bb_agenda.specs.proving.Lists.{without}

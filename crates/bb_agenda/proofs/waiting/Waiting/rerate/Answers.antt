@@ -3,7 +3,7 @@ use Rattle.std.specs.Map.{values_of, set_value}
 use Rattle.std.specs.Ordering.{nat_cmp}
 use Rattle.std.specs.BTreeMap.{is_at}
 use Rattle.std.proofs.lemmas.Int.{to_z-of_z}
-use Rattle.bb_agenda_foci.specs.declared.activation.Activation.{Activation}
+use Rattle.bb_agenda.specs.declared.focusing.activation.Activation.{Activation}
 use Rattle.bb_agenda.specs.Agenda.{has_number}
 use Rattle.bb_agenda.specs.Changes.{based_at, rebased}
 use Rattle.bb_agenda.specs.proving.Filed.{AreFiled, AreKeyed}

@@ -1,7 +1,7 @@
 use Rattle.std.proofs.Common.{ℕ, List}
 use Rattle.std.proofs.lemmas.Result.{err_from_is_err_and}
-use Rattle.bb_code_ops.specs.declared.parts.TheConstants.{FRAME_LIMIT}
-use Rattle.bb_code_ops.specs.declared.frame.FrameEntry.{FrameEntry}
+use Rattle.bb_code.specs.declared.parts.TheConstants.{FRAME_LIMIT}
+use Rattle.bb_code.specs.declared.frame.FrameEntry.{FrameEntry}
 use Rattle.bb_code.specs.Fields.{list_at, frame_at}
 use Rattle.bb_code.proofs.Turns.{goes_on, ends, is_done}
 use Rattle.bb_code.proofs.decode.frames.read_frames.Goals as goal

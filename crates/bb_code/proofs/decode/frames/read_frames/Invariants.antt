@@ -1,5 +1,5 @@
 use Rattle.std.proofs.Common.{◌≡◌, ◌-◌}
-use Rattle.bb_code_ops.specs.declared.parts.TheConstants.{FRAME_LIMIT}
+use Rattle.bb_code.specs.declared.parts.TheConstants.{FRAME_LIMIT}
 use Rattle.bb_code.specs.Fields.{repeated, list_at, frame_at}
 use Rattle.bb_code.proofs.Turns.{with_front}
 use Rattle.bb_code.proofs.decode.frames.read_frames.Given as goal

@@ -1,6 +1,6 @@
 use Rattle.std.proofs.Common.{ℕ, List}
 use Rattle.std.proofs.lemmas.Result.{err_from_is_err_and}
-use Rattle.bb_code_ops.specs.declared.frame.Kind.{Kind}
+use Rattle.bb_code.specs.declared.frame.Kind.{Kind}
 use Rattle.bb_code.specs.Fields.{kind_at, repeated}
 use Rattle.bb_code.proofs.Turns.{goes_on, ends, is_done}
 use Rattle.bb_code.proofs.decode.frames.read_kinds.Goals as goal

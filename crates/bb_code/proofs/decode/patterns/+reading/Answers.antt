@@ -1,6 +1,6 @@
 use Rattle.std.proofs.Common.{inl, inr}
 use Rattle.std.proofs.lemmas.Result.{err_from_is_err_and}
-use Rattle.bb_code_ops.specs.Trees.{Tree}
+use Rattle.bb_pattern.specs.Trees.{Tree}
 use Rattle.bb_code.specs.Patterns.{Ahead, parts_at, pattern_at}
 use Rattle.bb_code.proofs.Turns.{goes_on, ends, is_done}
 use Rattle.bb_code.proofs.PatternTurns.{too_deep, no_room, one_node}

@@ -3,9 +3,9 @@ use Rattle.std.proofs.lemmas.Result.{err_from_is_err_and}
 use Rattle.bb_run.specs.Run.{acting, execution}
 use Rattle.bb_run.specs.Seen.{seen}
 use Rattle.bb_run.specs.Emitting.{at}
-use Rattle.bb_run.proofs.SegmentLemmas.{cut_by_memory}
-use Rattle.bb_run.proofs.ServeCycles.{can_act, executed_serves}
-use Rattle.bb_run.proofs.EmitLemmas.{reported_as}
+use Rattle.bb_run.proofs.emitting.SegmentLemmas.{cut_by_memory}
+use Rattle.bb_run.proofs.serving.ServeCycles.{can_act, executed_serves}
+use Rattle.bb_run.proofs.emitting.EmitLemmas.{reported_as}
 use Rattle.bb_run.proofs.runner.Runner.act.Goals as goal
 
 pub returns-in_err-end-clause-made : goal.returns-in_err-end-clause-made

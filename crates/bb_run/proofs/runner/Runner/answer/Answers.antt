@@ -4,9 +4,9 @@ use Rattle.bb_run.specs.Run.{asked}
 use Rattle.bb_run.specs.Seen.{seen}
 use Rattle.bb_run.specs.Emitting.{at}
 use Rattle.bb_run.specs.Turns.{answering}
-use Rattle.bb_run.proofs.SegmentLemmas.{cut_by_memory}
-use Rattle.bb_run.proofs.ServeCycles.{answered_serves}
-use Rattle.bb_run.proofs.EmitLemmas.{reported_as}
+use Rattle.bb_run.proofs.emitting.SegmentLemmas.{cut_by_memory}
+use Rattle.bb_run.proofs.serving.ServeCycles.{answered_serves}
+use Rattle.bb_run.proofs.emitting.EmitLemmas.{reported_as}
 use Rattle.bb_run.proofs.runner.Runner.answer.Goals as goal
 
 pub returns-in_err-end-clause-made : goal.returns-in_err-end-clause-made

@@ -6,9 +6,9 @@ use Rattle.bb_run.specs.Processing.{reported}
 use Rattle.bb_run.specs.Run.{noted, start}
 use Rattle.bb_run.specs.Seen.{seen}
 use Rattle.bb_run.specs.Emitting.{Makes, at}
-use Rattle.bb_run.proofs.SegmentLemmas.{cut_by_memory}
-use Rattle.bb_run.proofs.ServeCycles.{noted_serves}
-use Rattle.bb_run.proofs.EmitLemmas.{reported_as}
+use Rattle.bb_run.proofs.emitting.SegmentLemmas.{cut_by_memory}
+use Rattle.bb_run.proofs.serving.ServeCycles.{noted_serves}
+use Rattle.bb_run.proofs.emitting.EmitLemmas.{reported_as}
 use Rattle.bb_run.proofs.runner.Runner.begin.Goals as goal
 
 pub returns-clause-made : goal.returns-clause-made

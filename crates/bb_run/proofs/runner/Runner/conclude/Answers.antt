@@ -4,8 +4,8 @@ use Rattle.bb_trace.specs.TraceText.{segment_text}
 use Rattle.bb_trace.specs.declared.note.Note.{Note}
 use Rattle.bb_trace.specs.declared.note.Note.TheVariants.{Closed, Finished}
 use Rattle.bb_run.specs.Emitting.{GivesUp, at}
-use Rattle.bb_run.proofs.SegmentLemmas.{stays}
-use Rattle.bb_run.proofs.WholeLemmas.{concluded, given_up}
+use Rattle.bb_run.proofs.emitting.SegmentLemmas.{stays}
+use Rattle.bb_run.proofs.emitting.WholeLemmas.{concluded, given_up}
 use Rattle.bb_run.proofs.runner.Runner.conclude.Goals as goal
 
 pub returns-in_default-clause-concludes : goal.returns-in_default-clause-concludes

@@ -1,6 +1,6 @@
 use Rattle.std.proofs.Common.{subst}
 use Rattle.bb_run.specs.Emitting.{EmittedUntil, at}
-use Rattle.bb_run.proofs.WholeLemmas.{given_up}
+use Rattle.bb_run.proofs.emitting.WholeLemmas.{given_up}
 use Rattle.bb_run.proofs.runner.Runner.cut_short.Goals as goal
 
 pub returns-in-Memory-clause-cut : goal.returns-in-Memory-clause-cut

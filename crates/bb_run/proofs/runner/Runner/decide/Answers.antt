@@ -2,8 +2,8 @@ use Rattle.std.proofs.Common.{sym}
 use Rattle.std.proofs.lemmas.Result.{err_from_is_err_and}
 use Rattle.bb_run.specs.Seen.{seen}
 use Rattle.bb_run.specs.Emitting.{at}
-use Rattle.bb_run.proofs.KnowLemmas.{quiet_known}
-use Rattle.bb_run.proofs.EmitLemmas.{wait_cut}
+use Rattle.bb_run.proofs.keeping.KnowLemmas.{quiet_known}
+use Rattle.bb_run.proofs.emitting.EmitLemmas.{wait_cut}
 use Rattle.bb_run.proofs.runner.Runner.decide.Goals as goal
 
 pub returns-in_err-end-clause-waited : goal.returns-in_err-end-clause-waited

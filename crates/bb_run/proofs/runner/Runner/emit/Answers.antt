@@ -1,4 +1,4 @@
-use Rattle.bb_run.proofs.SegmentLemmas.{segment_emitted}
+use Rattle.bb_run.proofs.emitting.SegmentLemmas.{segment_emitted}
 use Rattle.bb_run.proofs.runner.Runner.emit.Goals as goal
 
 pub returns-clause-emitted : goal.returns-clause-emitted

@@ -1,5 +1,5 @@
 use Rattle.bb_trace.specs.Page.{flushed}
-use Rattle.bb_run.proofs.SegmentLemmas.{segment_emitted}
+use Rattle.bb_run.proofs.emitting.SegmentLemmas.{segment_emitted}
 use Rattle.bb_run.proofs.runner.Runner.emit_now.Goals as goal
 
 pub returns-clause-emitted : goal.returns-clause-emitted

@@ -1,6 +1,6 @@
 use Rattle.std.proofs.Common.{[], subst}
 use Rattle.bb_run.specs.Emitting.{Finishes, at, at_page}
-use Rattle.bb_run.proofs.WholeLemmas.{cut_ends, made_ends}
+use Rattle.bb_run.proofs.emitting.WholeLemmas.{cut_ends, made_ends}
 use Rattle.bb_run.proofs.runner.Runner.end_by.Goals as goal
 
 pub returns-in-Ok-clause-ends : goal.returns-in-Ok-clause-ends

@@ -2,7 +2,7 @@ use Rattle.std.proofs.Common.{ℕ, List, subst}
 use Rattle.bb_run.specs.Seen.{seen}
 use Rattle.bb_run.specs.Emitting.{Finishes, at, at_page}
 use Rattle.bb_run.specs.Turns.{settled}
-use Rattle.bb_run.proofs.WholeLemmas.{left_board}
+use Rattle.bb_run.proofs.emitting.WholeLemmas.{left_board}
 use Rattle.bb_run.proofs.runner.Runner.finish.Goals as goal
 
 pub returns-clause-ends : goal.returns-clause-ends

@@ -10,10 +10,10 @@ use Rattle.bb_run.specs.Run.{acting, chosen_with, cycle, if_valid, rating, valid
 use Rattle.bb_run.specs.Unstuck.{SuitsSource}
 use Rattle.bb_run.specs.Seen.{seen}
 use Rattle.bb_run.specs.Emitting.{CutIn, IsResponse, IsEmitted, Makes, Validates, at}
-use Rattle.bb_run.proofs.SegmentLemmas.{cut_by_memory}
-use Rattle.bb_run.proofs.ServeCycles.{can_validate, chosen_serves}
-use Rattle.bb_run.proofs.EmitLemmas.{HasEmitted, choice_cut, choice_over, choice_emitted, idle_emitted, makes_last}
-use Rattle.bb_run.proofs.WeighLemmas.{rating_known}
+use Rattle.bb_run.proofs.emitting.SegmentLemmas.{cut_by_memory}
+use Rattle.bb_run.proofs.serving.ServeCycles.{can_validate, chosen_serves}
+use Rattle.bb_run.proofs.emitting.EmitLemmas.{HasEmitted, choice_cut, choice_over, choice_emitted, idle_emitted, makes_last}
+use Rattle.bb_run.proofs.keeping.WeighLemmas.{rating_known}
 use Rattle.bb_run.proofs.runner.Runner.make_cycle.Goals as goal
 
 pub returns-in_err-verdict-clause-made : goal.returns-in_err-verdict-clause-made

@@ -5,10 +5,10 @@ use Rattle.bb_run.specs.Run.{cycle, cycles}
 use Rattle.bb_run.specs.Emission.{over}
 use Rattle.bb_run.specs.Seen.{seen}
 use Rattle.bb_run.specs.Emitting.{at}
-use Rattle.bb_run.proofs.CycleCounts.{cycle_last, cycle_left, limit_acts, limit_over, over_left}
-use Rattle.bb_run.proofs.KnowLemmas.{cycle_known, wait_known}
-use Rattle.bb_run.proofs.EmitLemmas.{cycle_then, at_cycle, at_limit, nothing_emitted, over_limit, part_cut, part_made, part_over, decision_acts, decision_cut, decision_over, same_then}
-use Rattle.bb_run.proofs.ServeCycles.{cycle_serves, wait_serves, wait_suits}
+use Rattle.bb_run.proofs.stretches.CycleCounts.{cycle_last, cycle_left, limit_acts, limit_over, over_left}
+use Rattle.bb_run.proofs.keeping.KnowLemmas.{cycle_known, wait_known}
+use Rattle.bb_run.proofs.emitting.EmitLemmas.{cycle_then, at_cycle, at_limit, nothing_emitted, over_limit, part_cut, part_made, part_over, decision_acts, decision_cut, decision_over, same_then}
+use Rattle.bb_run.proofs.serving.ServeCycles.{cycle_serves, wait_serves, wait_suits}
 use Rattle.bb_run.proofs.runner.Runner.make_cycles.Goals as goal
 
 pub loop-done-init : goal.loop-done-init

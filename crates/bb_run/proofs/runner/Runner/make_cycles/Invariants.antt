@@ -5,7 +5,7 @@ use Rattle.bb_run.specs.Seen.{seen}
 use Rattle.bb_run.specs.Serving.{Serves}
 use Rattle.bb_run.specs.Emitting.{Same, at}
 use Rattle.bb_run.specs.Turns.{choices_of}
-use Rattle.bb_run.proofs.EmitLemmas.{HasEmitted}
+use Rattle.bb_run.proofs.emitting.EmitLemmas.{HasEmitted}
 use Rattle.bb_run.proofs.runner.Runner.make_cycles.Given as goal
 
 abbrev pub invariant-loop-done : goal.invariant-loop-done

@@ -2,7 +2,7 @@ use Rattle.std.proofs.Common.{ℕ, List, map, subst}
 use Rattle.bb_run.specs.Run.{unfinished}
 use Rattle.bb_run.specs.Seen.{seen}
 use Rattle.bb_run.specs.Emitting.{Finishes, at, at_page}
-use Rattle.bb_run.proofs.WholeLemmas.{left_board}
+use Rattle.bb_run.proofs.emitting.WholeLemmas.{left_board}
 use Rattle.bb_run.proofs.runner.Runner.make_run.Goals as goal
 
 pub returns-clause-written : goal.returns-clause-written

@@ -7,9 +7,9 @@ use Rattle.bb_run.specs.Seen.{seen}
 use Rattle.bb_run.specs.Emitting.{at}
 use Rattle.bb_run.specs.Emission.{after_emitted}
 use Rattle.bb_run.specs.Turns.{posting}
-use Rattle.bb_run.proofs.SegmentLemmas.{cut_by_memory}
-use Rattle.bb_run.proofs.ServeCycles.{posted_is, posted_serves}
-use Rattle.bb_run.proofs.EmitLemmas.{reported_as}
+use Rattle.bb_run.proofs.emitting.SegmentLemmas.{cut_by_memory}
+use Rattle.bb_run.proofs.serving.ServeCycles.{posted_is, posted_serves}
+use Rattle.bb_run.proofs.emitting.EmitLemmas.{reported_as}
 use Rattle.bb_run.proofs.runner.Runner.post.Goals as goal
 
 pub returns-in_err-push-clause-made : goal.returns-in_err-push-clause-made

@@ -3,8 +3,8 @@ use Rattle.std.proofs.lemmas.Result.{err_from_is_err_and}
 use Rattle.bb_run.specs.Processing.{processing, response}
 use Rattle.bb_run.specs.Seen.{seen}
 use Rattle.bb_run.specs.Emitting.{at}
-use Rattle.bb_run.proofs.SegmentLemmas.{cut_by_memory}
-use Rattle.bb_run.proofs.EmitLemmas.{response_cut, response_emitted}
+use Rattle.bb_run.proofs.emitting.SegmentLemmas.{cut_by_memory}
+use Rattle.bb_run.proofs.emitting.EmitLemmas.{response_cut, response_emitted}
 use Rattle.bb_run.proofs.runner.Runner.process.Goals as goal
 
 pub returns-in_err-end-clause-made : goal.returns-in_err-end-clause-made

@@ -6,8 +6,8 @@ use Rattle.std.proofs.lemmas.Result.{err_from_is_err_and}
 use Rattle.bb_run.specs.Processing.{events_in, processing_all}
 use Rattle.bb_run.specs.Seen.{seen}
 use Rattle.bb_run.specs.Emitting.{at}
-use Rattle.bb_run.proofs.ServeCycles.{event_there, events_left, events_passed, serves_next, serves_one}
-use Rattle.bb_run.proofs.EmitLemmas.{at_note, event_cut, event_ends, event_made, events_end, nothing_emitted, same_then}
+use Rattle.bb_run.proofs.serving.ServeCycles.{event_there, events_left, events_passed, serves_next, serves_one}
+use Rattle.bb_run.proofs.emitting.EmitLemmas.{at_note, event_cut, event_ends, event_made, events_end, nothing_emitted, same_then}
 use Rattle.bb_run.proofs.runner.Runner.process_all.Goals as goal
 
 pub loop-note-init : goal.loop-note-init

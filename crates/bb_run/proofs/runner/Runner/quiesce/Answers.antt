@@ -8,8 +8,8 @@ use Rattle.bb_run.specs.Processing.{response}
 use Rattle.bb_run.specs.Run.{quiet}
 use Rattle.bb_run.specs.Seen.{seen}
 use Rattle.bb_run.specs.Emitting.{at}
-use Rattle.bb_run.proofs.SegmentLemmas.{cut_by_memory}
-use Rattle.bb_run.proofs.EmitLemmas.{response_cut, response_emitted}
+use Rattle.bb_run.proofs.emitting.SegmentLemmas.{cut_by_memory}
+use Rattle.bb_run.proofs.emitting.EmitLemmas.{response_cut, response_emitted}
 use Rattle.bb_run.proofs.runner.Runner.quiesce.Goals as goal
 
 pub returns-in_err-push-clause-made : goal.returns-in_err-push-clause-made

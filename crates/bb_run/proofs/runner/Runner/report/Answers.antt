@@ -1,7 +1,7 @@
 use Rattle.std.proofs.lemmas.Result.{err_from_is_err_and}
 use Rattle.bb_run.specs.Seen.{seen}
 use Rattle.bb_run.specs.Emitting.{at}
-use Rattle.bb_run.proofs.EmitLemmas.{report_cut, report_made, report_over}
+use Rattle.bb_run.proofs.emitting.EmitLemmas.{report_cut, report_made, report_over}
 use Rattle.bb_run.proofs.runner.Runner.report.Goals as goal
 
 pub returns-in_err-emit-clause-made : goal.returns-in_err-emit-clause-made

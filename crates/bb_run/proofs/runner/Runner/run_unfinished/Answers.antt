@@ -3,9 +3,9 @@ use Rattle.std.proofs.lemmas.Result.{err_from_is_err_and}
 use Rattle.bb_run.specs.Run.{cycles, start, unfinished}
 use Rattle.bb_run.specs.Seen.{seen}
 use Rattle.bb_run.specs.Emitting.{Finishes, at}
-use Rattle.bb_run.proofs.KnowLemmas.{start_known}
-use Rattle.bb_run.proofs.ServeCycles.{start_serves}
-use Rattle.bb_run.proofs.EmitLemmas.{nothing_emitted, makes_last, part_cut, part_made, part_over}
+use Rattle.bb_run.proofs.keeping.KnowLemmas.{start_known}
+use Rattle.bb_run.proofs.serving.ServeCycles.{start_serves}
+use Rattle.bb_run.proofs.emitting.EmitLemmas.{nothing_emitted, makes_last, part_cut, part_made, part_over}
 use Rattle.bb_run.proofs.runner.Runner.run_unfinished.Goals as goal
 
 pub returns-in_err-end-clause-made : goal.returns-in_err-end-clause-made

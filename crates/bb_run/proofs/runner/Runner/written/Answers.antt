@@ -1,7 +1,7 @@
 use Rattle.std.proofs.Common.{[], refl, subst}
 use Rattle.std.proofs.lemmas.Result.{err_from_is_err_and}
 use Rattle.bb_run.specs.Emitting.{MakesBy, at, at_page}
-use Rattle.bb_run.proofs.TurnLemmas.{cut_written, emitted_fails, emitted_written}
+use Rattle.bb_run.proofs.emitting.TurnLemmas.{cut_written, emitted_fails, emitted_written}
 use Rattle.bb_run.proofs.runner.Runner.written.Goals as goal
 
 pub returns-in_err-flush-in-Ok-clause-writes : goal.returns-in_err-flush-in-Ok-clause-writes

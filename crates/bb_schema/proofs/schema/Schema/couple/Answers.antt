@@ -4,8 +4,8 @@ use Rattle.bb_schema_classes.specs.declared.kind.Link.{Link}
 use Rattle.bb_schema.specs.declared.couple.Side.{Side}
 use Rattle.bb_schema.specs.Couples.{firsts, couple_end}
 use Rattle.bb_schema.proofs.CoupleListLemmas.{couple_listed}
-use Rattle.bb_schema_slots.specs.declared.slot.Slot.{Slot}
-use Rattle.bb_schema_slots.specs.Slots.{link_of}
+use Rattle.bb_schema.specs.declared.slot.Slot.{Slot}
+use Rattle.bb_schema.specs.Slots.{link_of}
 use Rattle.bb_schema.proofs.CoupleLemmas.{owned_within}
 use Rattle.bb_schema.proofs.schema.Schema.couple.Goals as goal
 

@@ -1,9 +1,0 @@
--- The foci of the entries that the code keeps. No public clause cites it.
-use Rattle.std.specs.Prelude.{ℕ, List}
-use Rattle.std.specs.FinMap as fin
-use Rattle.bb_agenda_foci.specs.declared.focus.Focus.{Focus}
-use Rattle.bb_agenda_foci.specs.Foci.{Foci}
-
--- the foci of some entries
-abbrev pub foci_of : List (ℕ × Focus) → Foci
-foci_of entries = fin.from_entries entries

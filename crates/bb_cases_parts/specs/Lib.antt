@@ -1,0 +1,2 @@
+-- executions of a code, as lines
+pub mod machines

@@ -1,8 +1,0 @@
-use Rattle.std.proofs.Common.{ℕ, ◌<◌, slice_index_or}
-use Rattle.bb_code_ops.specs.declared.frame.Kind.{Kind}
-use Rattle.bb_code_ops.specs.Code.{IsKind}
-use Rattle.bb_code_ops.proofs.within.kinds_fit.Given as goal
-
--- the kinds so far fit
-abbrev pub invariant-loop-kind : goal.invariant-loop-kind
-invariant-loop-kind l = (k : ℕ) (d : Kind) → k < l.kind-index → IsKind (slice_index_or l.kinds k d)

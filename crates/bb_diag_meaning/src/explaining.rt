@@ -1,0 +1,56 @@
+//! The message on a fault of a source's code. Reports (bb_diag) call it.
+
+use crate::mismatch::write_mismatch;
+use crate::others::{write_effect, write_end, write_limit};
+use crate::scope::{Judge, Statement};
+use crate::units::{write_gone, write_space, write_wrong_class};
+use crate::unknown::write_unknown;
+use bb_basis::Memory;
+use bb_compile_scope::{Place, Schema, TextFlaw};
+use bb_diag_text::source_tokens;
+use std::alloc::Global;
+
+// The maximum number of tokens of a statement that is examined: the time is quadratic in it.
+const LONGEST: usize = 8_192;
+
+/// The fault of a source, and where it is.
+#[derive(Clone, Copy, Debug)]
+pub struct Found<'a> {
+    /// The name of the source.
+    pub name: &'a str,
+    pub flaw: TextFlaw,
+    pub place: Place,
+}
+
+/// Explains what is wrong with the statement at the location of a fault, without a line feed; `None` if there is
+/// nothing to add to the fault's own sentence. `Memory`: memory ran out.
+pub fn explain_statement(
+    alloc: Global,
+    schema: &Schema,
+    sources: &str,
+    found: Found<'_>,
+) -> Result<Option<String>, Memory> {
+    let tokens = source_tokens(alloc, sources, found.name)?;
+    let Some(statement) = Statement::at(tokens.as_slice(), found.place) else {
+        return Ok(None);
+    };
+    if statement.tokens().len() > LONGEST {
+        return Ok(None);
+    }
+    let judge = Judge::before(alloc, schema, statement)?;
+    let mut text = String::new(alloc);
+    match found.flaw {
+        TextFlaw::Unknown => write_unknown(&mut text, &judge, statement)?,
+        TextFlaw::Kind => write_mismatch(&mut text, &judge, statement)?,
+        TextFlaw::DeadName => write_gone(&mut text, &judge, statement)?,
+        TextFlaw::LinkClass => write_wrong_class(&mut text, &judge, statement)?,
+        TextFlaw::Space => write_space(&mut text, &judge, statement)?,
+        TextFlaw::Effect => write_effect(&mut text, &judge, statement)?,
+        TextFlaw::NoEnd => write_end(&mut text, &judge, statement)?,
+        TextFlaw::Limit => write_limit(&mut text, &judge, statement)?,
+    }
+    if text.is_empty() {
+        return Ok(None);
+    }
+    Ok(Some(text))
+}

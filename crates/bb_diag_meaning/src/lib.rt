@@ -1,0 +1,23 @@
+//! Messages on statements that do not compile and on clauses that do not fit: unknown names and the known ones, kinds
+//! that do not match, units that may be gone, classes that do not fit, and limits.
+//!
+//! - In: a schema, a text of sources, the name of the source, and its fault.
+//! - Out: `explain_statement`, and `explain_clause` for a clause: the message, if there is anything to add to the
+//!   fault's number.
+//! - Callers rely on: messages are for people. The statement is examined again, by its tokens and by what the names
+//!   before it hold; if nothing wrong is found, there is no message.
+//! - Family: scope has what is known at a statement; bb_compile_scope has the rules of slots and kinds.
+//! - Cases: `sentences`.
+#![tactic(auto)]
+
+mod clauses;
+mod explaining;
+mod mismatch;
+mod operations;
+mod others;
+pub mod scope;
+mod units;
+mod unknown;
+
+pub use clauses::{Clause, Reason, explain_clause};
+pub use explaining::{Found, explain_statement};

@@ -1,0 +1,52 @@
+//! The message on a fault of a text. Reports (bb_diag) call it.
+
+use crate::characters::write_character;
+use crate::limits::{write_limit, write_nesting, write_twice};
+use crate::tokens::write_token;
+use bb_basis::Memory;
+use bb_diag_text::look;
+use bb_lang_tree::{LangFault, Place};
+use std::alloc::Global;
+
+// The kinds of fault that have a location.
+#[derive(Clone, Copy, Debug)]
+enum Kind {
+    Character,
+    Token,
+    Nesting,
+    Twice,
+    Limit,
+}
+
+// Returns the kind and the location of a fault that more can be said about.
+fn kind_of(fault: LangFault) -> Option<(Kind, Place)> {
+    match fault {
+        LangFault::Character { place } => Some((Kind::Character, place)),
+        LangFault::Token { place } => Some((Kind::Token, place)),
+        LangFault::Nesting { place } => Some((Kind::Nesting, place)),
+        LangFault::Twice { place } => Some((Kind::Twice, place)),
+        LangFault::Limit { place } => Some((Kind::Limit, place)),
+        LangFault::Memory => None,
+    }
+}
+
+/// Explains what is wrong at the location of a text's fault, without a line feed; `None` if there is nothing to add to
+/// the fault's own sentence. `Memory`: memory ran out.
+pub fn explain(alloc: Global, source: &str, fault: LangFault) -> Result<Option<String>, Memory> {
+    let Some((kind, place)) = kind_of(fault) else {
+        return Ok(None);
+    };
+    let spot = look(alloc, source, place.line, place.column)?;
+    let mut text = String::new(alloc);
+    match kind {
+        Kind::Character => write_character(&mut text, &spot, source)?,
+        Kind::Token => write_token(&mut text, &spot)?,
+        Kind::Nesting => write_nesting(&mut text, &spot)?,
+        Kind::Twice => write_twice(&mut text, &spot, source)?,
+        Kind::Limit => write_limit(&mut text, &spot)?,
+    }
+    if text.is_empty() {
+        return Ok(None);
+    }
+    Ok(Some(text))
+}

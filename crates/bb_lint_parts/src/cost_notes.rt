@@ -1,0 +1,128 @@
+//! Costs that depend on what is on the blackboard and the agenda, which budgets do not show: reactions, searches that
+//! no test bounds, and searches used only to learn whether anything is found. `write_costs` writes them below the
+//! table.
+
+use crate::existence::asks_for_one;
+use crate::op_sites::OpSites;
+use crate::site::Site;
+use crate::source_sites::{SourceSites, Texts};
+use bb_basis::Memory;
+use bb_code::{Code, Node, Op, Place, Query, Schema};
+use bb_rules::{Reaction, Source};
+use bb_verify::Checked;
+use std::alloc::Global;
+use std::fmt::Write;
+
+// Returns the query of an op that searches without a test that bounds it.
+fn unbounded(code: &Code, op: Op) -> Option<&Query> {
+    let Op::Find(index) = op else {
+        return None;
+    };
+    let query = code.queries().get(index as usize)?;
+    match query.pattern.node() {
+        Node::All | Node::Not(_) => Some(query),
+        _ => None,
+    }
+}
+
+// Begins a line about a part of a source.
+fn begin(text: &mut String, name: &str, part: &str, site: Site<'_>) -> Result<(), Memory> {
+    write!(text, "cost: source {name}, {part}")?;
+    site.write_place_in_line(text)
+}
+
+// Appends the further costs of an op's search.
+fn write_search(
+    text: &mut String,
+    schema: &Schema,
+    name: &str,
+    checked: &Checked,
+    sites: &OpSites<'_>,
+    place: Place,
+) -> Result<(), Memory> {
+    let code = checked.code();
+    let Some(op) = code.op(place as usize) else {
+        return Ok(());
+    };
+    let part = checked.part().word();
+    if let Some(query) = unbounded(code, op) {
+        let space = schema.space_name(query.space).unwrap_or("?");
+        begin(text, name, part, sites.at(place, op))?;
+        writeln!(
+            text,
+            "no test bounds it, so it goes over all members of space {space}"
+        )?;
+    }
+    if asks_for_one(checked, place) {
+        begin(text, name, part, sites.at(place, op))?;
+        text.push_str(
+            "it lists all that it finds, and its size only tells whether there is one; ",
+        )?;
+        text.push_str("have tests leave few, or keep the number in a slot\n")?;
+    }
+    Ok(())
+}
+
+// Returns whether a source has a reaction that is asked about every pending activation, not only the one of the event's
+// unit.
+fn asks_about_all(reaction: &Option<Reaction>) -> bool {
+    match reaction {
+        None => false,
+        Some(reaction) => !reaction.code.asks_own(),
+    }
+}
+
+// Appends that a reaction is asked for every pending activation.
+fn write_reaction(
+    text: &mut String,
+    name: &str,
+    part: &str,
+    sites: &SourceSites<'_>,
+) -> Result<(), Memory> {
+    begin(text, name, part, sites.part(part))?;
+    text.push_str("an event asks it once for each activation of the source that waits\n")
+}
+
+// Appends the further costs of a source's parts.
+fn write_notes_on(
+    alloc: Global,
+    text: &mut String,
+    schema: &Schema,
+    source: &Source,
+    sites: &SourceSites<'_>,
+) -> Result<(), Memory> {
+    let parts = source.parts();
+    let name = parts.name.as_str();
+    if asks_about_all(&parts.obviate) {
+        write_reaction(text, name, "obviate", sites)?;
+    }
+    if asks_about_all(&parts.retrigger) {
+        write_reaction(text, name, "retrigger", sites)?;
+    }
+    for code in source.codes() {
+        if let Some(checked) = code {
+            let ops = sites.ops(alloc, checked)?;
+            let count = checked.code().ops().len() as Place;
+            for place in 0..count {
+                write_search(text, schema, name, checked, &ops, place)?;
+            }
+        }
+    }
+    Ok(())
+}
+
+/// Appends the costs that depend on what exists: the reactions of every source, and its searches that cost more than
+/// needed.
+pub(crate) fn write_cost_notes(
+    alloc: Global,
+    text: &mut String,
+    schema: &Schema,
+    texts: &Texts<'_>,
+    sources: &[Source],
+) -> Result<(), Memory> {
+    for (index, source) in sources.iter().enumerate() {
+        let sites = texts.sites(alloc, index, source)?;
+        write_notes_on(alloc, text, schema, source, &sites)?;
+    }
+    Ok(())
+}

@@ -1,3 +1,0 @@
--- what crates above use
-pub mod Laws
-pub mod StackLemmas

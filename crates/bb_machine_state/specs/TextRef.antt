@@ -1,8 +1,0 @@
--- The bytes of a text, wherever it lies.
-use Rattle.std.specs.Prelude.{ℕ, List}
-use Rattle.bb_machine_state.specs.declared.text_ref.Storage.{Storage}
-use Rattle.bb_machine_state.specs.declared.text_ref.Storage.TheVariants.{Borrowed, Shared}
-
-abbrev pub text_of : Storage → List ℕ
-text_of (Borrowed text) = text.now
-text_of (Shared text) = text

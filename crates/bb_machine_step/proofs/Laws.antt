@@ -1,5 +1,0 @@
--- What the crates above use of an execution.
-pub use Rattle.bb_machine_step.proofs.ExecutionLemmas.{after_op, by_op}
-pub use Rattle.bb_machine_step.proofs.ReadLemmas.{activation_reads}
-pub use Rattle.bb_machine_step.proofs.NamedLemmas.{activation_named, activation_schema}
-pub use Rattle.bb_machine_step.proofs.FullLemmas.{activation_full, activation_no_memory}

@@ -1,6 +1,0 @@
-use Rattle.std.proofs.Common.{◌≡◌}
-use Rattle.bb_schema_slots.specs.proving.Relation.{closed_by}
-use Rattle.bb_schema_slots.proofs.relation.closed.Given as goal
-
-abbrev pub invariant-loop-number : goal.invariant-loop-number
-invariant-loop-number l = l.rows.items ≡ closed_by l.number l.fn.rows.items

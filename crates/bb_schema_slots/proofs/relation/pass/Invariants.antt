@@ -1,6 +1,0 @@
-use Rattle.std.proofs.Common.{◌≡◌, map, take}
-use Rattle.bb_schema_slots.specs.proving.Relation.{through}
-use Rattle.bb_schema_slots.proofs.relation.pass.Given as goal
-
-abbrev pub invariant-loop-row : goal.invariant-loop-row
-invariant-loop-row l = l.joined.items ≡ map (λ row. through row l.other l.number) (take l.row-index l.rows)

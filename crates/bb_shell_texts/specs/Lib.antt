@@ -1,2 +1,0 @@
--- what an input's sources that are text come to
-pub mod Texts

@@ -1,5 +1,0 @@
-use Rattle.bb_space_index.specs.Marks.{LeavesAllNear}
-use Rattle.bb_space_index.proofs.thin.thin_all.Given as goal
-
-abbrev pub invariant-loop-test : goal.invariant-loop-test
-invariant-loop-test l = LeavesAllNear l.tests l.places l.among l.list.items

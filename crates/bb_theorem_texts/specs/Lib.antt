@@ -1,0 +1,2 @@
+-- what becomes of an input's sources that are text
+pub mod Texts

@@ -1,0 +1,6 @@
+use Rattle.std.proofs.Common.{arith}
+use Rattle.bb_verify_effect.proofs.StackLemmas.{length_of}
+use Rattle.bb_verify_effect.proofs.stack.Stack.len.Goals as goal
+
+pub returns : goal.returns
+returns c = length_of c.self.inside.kinds c.self.inside.len _ c.self.view_is (omega (arith, c.self.invariant.0, c.self.invariant.1))

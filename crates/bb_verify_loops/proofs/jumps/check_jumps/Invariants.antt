@@ -1,8 +1,0 @@
-use Rattle.std.proofs.Common.{◌≡◌, ◌-◌, length}
-use Rattle.std.specs.List.{range_with_len}
-use Rattle.bb_code.specs.Each.{each}
-use Rattle.bb_verify_loops.specs.Jumps.{jump_at}
-use Rattle.bb_verify_loops.proofs.jumps.check_jumps.Given as goal
-
-abbrev pub invariant-loop-place : goal.invariant-loop-place
-invariant-loop-place l = each (jump_at l.code) (range_with_len l.place (length l.code.ops - l.place)) ≡ each (jump_at l.code) (range_with_len 0 (length l.code.ops))

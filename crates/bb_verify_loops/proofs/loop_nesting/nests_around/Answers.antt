@@ -1,6 +1,0 @@
-use Rattle.std.proofs.Common.{◌∙◌}
-use Rattle.bb_verify_loops.proofs.OpenLemmas.{nests_held}
-use Rattle.bb_verify_loops.proofs.loop_nesting.nests_around.Goals as goal
-
-pub returns : goal.returns
-returns c = c.nests_with_all.ensures ∙ nests_held c.args.code.now c.args.l c.args.around.now c.requires

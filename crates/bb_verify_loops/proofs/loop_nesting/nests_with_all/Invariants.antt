@@ -1,7 +1,0 @@
-use Rattle.std.proofs.Common.{◌≡◌, drop}
-use Rattle.bb_code.specs.Each.{each}
-use Rattle.bb_verify_loops.specs.Loops.{nests}
-use Rattle.bb_verify_loops.proofs.loop_nesting.nests_with_all.Given as goal
-
-abbrev pub invariant-loop-outer : goal.invariant-loop-outer
-invariant-loop-outer l = each (nests l.code l.l) (drop l.outer-index l.loops) ≡ each (nests l.code l.l) l.loops

@@ -1,6 +1,0 @@
-use Rattle.std.proofs.Common.{◌∙◌}
-use Rattle.bb_verify_loops.proofs.OpenLemmas.{keeps_held}
-use Rattle.bb_verify_loops.proofs.loop_ops.keeps_around.Goals as goal
-
-pub returns : goal.returns
-returns c = c.keeps_locals.ensures ∙ keeps_held c.args.code.now c.args.place c.args.local c.args.around.now c.requires.holding

@@ -1,7 +1,0 @@
-use Rattle.std.proofs.Common.{◌≡◌, drop}
-use Rattle.bb_code.specs.Each.{each}
-use Rattle.bb_verify_loops.specs.Loops.{keeps_local}
-use Rattle.bb_verify_loops.proofs.loop_ops.keeps_locals.Given as goal
-
-abbrev pub invariant-loop-l : goal.invariant-loop-l
-invariant-loop-l l = each (keeps_local l.code l.place l.local) (drop l.l-index l.loops) ≡ each (keeps_local l.code l.place l.local) l.loops

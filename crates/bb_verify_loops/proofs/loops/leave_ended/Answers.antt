@@ -1,7 +1,0 @@
-use Rattle.std.proofs.Common.{rules}
-use Rattle.std.proofs.lemmas.Fn.{filter_same}
-use Rattle.bb_verify_loops.specs.proving.OpenLoops.{lasts}
-use Rattle.bb_verify_loops.proofs.loops.leave_ended.Goals as goal
-
-pub returns : goal.returns
-returns c = filter_same _ (lasts c.args.place) _ (λ x b f' k. search rules) _ _ c.retain.ensures.filtered
