@@ -1,5 +1,5 @@
 //! Drafts: sources whose names are texts, not looked up yet. The parser of bundles and the compiler (bb_compile) make
-//! them with a `Code` for each part, bb_shell turns the codes into `Checked` ones, and bb_rules makes sources of them.
+//! them with a `Code` for each part, bb_shell turns the codes into `Lowered` ones, and bb_rules makes sources of them.
 
 ghost use Rattle.std.specs.Prelude.{◌≡◌};
 ghost use Rattle.bb_bundle.specs.Drafts.{no_parts, with_obviate, with_require, with_retrigger, with_revalidate};
@@ -53,7 +53,7 @@ pub enum ActDraft<C> {
     Native,
 }
 
-/// A source whose names are not looked up yet, with a `C` for each of its codes (`Code`, or `Checked` once verified).
+/// A source whose names are not looked up yet, with a `C` for each of its codes (`Code`, or `Lowered` once verified).
 #[derive(Drop)]
 pub struct SourceDraft<C> {
     /// The name, class, rate and triggers.

@@ -32,7 +32,7 @@ fn may_make_focus(schema: &Schema, act: &Act) -> bool
     ensures { result ≡ may_make_focus schema.now act.now }
 {
     match act {
-        Act::Code(checked) => any_op_makes_focus(schema, checked.code().ops()),
+        Act::Code(lowered) => any_op_makes_focus(schema, lowered.checked().code().ops()),
         Act::Native => true,
     }
 }

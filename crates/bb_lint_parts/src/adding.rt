@@ -34,10 +34,11 @@ impl Possible {
 
     /// Adds what the act of a source can change. The other parts of a source change nothing.
     pub(crate) fn add_act(&mut self, schema: &Schema, act: &Act) -> Result<(), Memory> {
-        let Act::Code(checked) = act else {
+        let Act::Code(lowered) = act else {
             self.is_open = true;
             return Ok(());
         };
+        let checked = lowered.checked();
         let count = checked.code().ops().len() as Place;
         for place in 0..count {
             self.add_op(schema, checked, place)?;

@@ -32,7 +32,7 @@ pub(crate) fn acting(act: &Act) -> Option<&Checked>
     ensures { option_map (λ c. c.now) result ≡ act_code act.now }
 {
     match act {
-        Act::Code(checked) => Some(checked),
+        Act::Code(lowered) => Some(lowered.checked()),
         Act::Native => None,
     }
 }

@@ -9,8 +9,8 @@ use crate::parts::parts_fit;
 use crate::place::ClauseList;
 use crate::resolve::{Classes, clauses_of, reaction_clauses};
 use bb_bundle::SourceDraft;
+use bb_exec_lower::Lowered;
 use bb_schema::Schema;
-use bb_verify::Checked;
 use std::alloc::Global;
 
 /// What the names in a draft stand for.
@@ -33,7 +33,7 @@ impl Found {
     pub(crate) fn of(
         alloc: Global,
         schema: &Schema,
-        draft: &SourceDraft<Checked>,
+        draft: &SourceDraft<Lowered>,
     ) -> Result<Found, RuleFault>
         ensures { Gives RuleFault.Memory (λ f. f) result (found schema.now draft.now) }
     {

@@ -1,6 +1,6 @@
 //! Sources whose names are looked up and whose codes are accepted, and the events they respond to.
 //!
-//! - In: a source of a bundle, with `Checked` codes, and a schema.
+//! - In: a source of a bundle, with `Lowered` codes, and a schema.
 //! - Out: `Source::new`, the source, or the first `RuleFault` with the clause or class at fault.
 //! - Callers rely on: each code was accepted for its part; codes of parts other than `do` cannot write; whether an
 //!   event matches a list of clauses is looked up by the event's kind and class. `most_steps` and `creates` return what

@@ -6,7 +6,8 @@ ghost use Rattle.bb_rules.specs.Source.{act_code, is_for, is_for_reaction, is_sa
 use crate::fault::RuleFault;
 use crate::resolve::Classes;
 use bb_bundle::{ActDraft, ReactionDraft, SourceDraft};
-use bb_verify::{Checked, Part};
+use bb_exec_lower::Lowered;
+use bb_verify::Part;
 
 fn is_same_part(part: Part, other: Part) -> bool
     ensures { result ≡ is_same_part part other }
@@ -15,16 +16,16 @@ fn is_same_part(part: Part, other: Part) -> bool
 }
 
 // Checks that a code, if there is one, was accepted for this part.
-fn is_for(part: Part, code: Option<&Checked>) -> Result<(), RuleFault>
+fn is_for(part: Part, code: Option<&Lowered>) -> Result<(), RuleFault>
     ensures { result ≡ is_for part (option_map (λ c. c.now) code.entry) }
 {
     match code {
-        Some(code) if !is_same_part(code.part(), part) => Err(RuleFault::Part),
+        Some(code) if !is_same_part(code.checked().part(), part) => Err(RuleFault::Part),
         _ => Ok(()),
     }
 }
 
-fn reaction_code(draft: &Option<ReactionDraft<Checked>>) -> Option<&Checked>
+fn reaction_code(draft: &Option<ReactionDraft<Lowered>>) -> Option<&Lowered>
     ensures { option_map (λ c. c.now) result ≡ reaction_code draft.now }
 {
     match draft {
@@ -33,7 +34,7 @@ fn reaction_code(draft: &Option<ReactionDraft<Checked>>) -> Option<&Checked>
     }
 }
 
-fn act_code(draft: &ActDraft<Checked>) -> Option<&Checked>
+fn act_code(draft: &ActDraft<Lowered>) -> Option<&Lowered>
     ensures { option_map (λ c. c.now) result ≡ act_code draft.now }
 {
     match draft {
@@ -43,7 +44,7 @@ fn act_code(draft: &ActDraft<Checked>) -> Option<&Checked>
 }
 
 // Checks that the code of a reaction, if there is one, was accepted for its part.
-fn is_for_reaction(part: Option<Part>, code: Option<&Checked>) -> Result<(), RuleFault>
+fn is_for_reaction(part: Option<Part>, code: Option<&Lowered>) -> Result<(), RuleFault>
     ensures { result ≡ is_for_reaction part (option_map (λ c. c.now) code.entry) }
 {
     match part {
@@ -54,7 +55,7 @@ fn is_for_reaction(part: Option<Part>, code: Option<&Checked>) -> Result<(), Rul
 
 /// Checks that each code of a draft was accepted for its part and these classes. `Part`: one was not.
 #[tactic(auto, unfolding(crate::specs::Source::parts_fit))]
-pub(crate) fn parts_fit(classes: Classes, draft: &SourceDraft<Checked>) -> Result<(), RuleFault>
+pub(crate) fn parts_fit(classes: Classes, draft: &SourceDraft<Lowered>) -> Result<(), RuleFault>
     ensures { result ≡ parts_fit classes draft.now }
 {
     let class = classes.own;

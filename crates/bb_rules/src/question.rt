@@ -8,13 +8,14 @@ ghost use Rattle.bb_rules.specs.Own.{asks_own};
 ghost use Rattle.bb_rules.specs.Questions.{IsQuestion};
 
 use crate::own;
+use bb_exec_lower::Lowered;
 use bb_verify::Checked;
 use std::marker::Model;
 
 /// A code that a source asks: it was accepted for a part that may not write. Contracts see it as that code.
 #[derive(Drop)]
 pub struct Question {
-    code: Checked,
+    code: Lowered,
 }
 
 impl Model for Question {
@@ -32,17 +33,24 @@ impl Model for Question {
 }
 
 impl Question {
-    pub(crate) fn new(code: Checked) -> Question
+    pub(crate) fn new(code: Lowered) -> Question
         requires { writes code.part ≡ Err Effect }
         ensures { result ≡ code }
     {
         // For the proof: the code's invariant.
-        code.fits();
+        code.checked().fits();
         Question { code }
     }
 
     /// Returns the code.
     pub fn checked(&self) -> &Checked
+        ensures { result.now ≡ self.now }
+    {
+        self.code.checked()
+    }
+
+    /// Returns the code with its instructions.
+    pub fn lowered(&self) -> &Lowered
         ensures { result.now ≡ self.now }
     {
         &self.code
@@ -53,7 +61,7 @@ impl Question {
     pub fn asks_own(&self) -> bool
         ensures { result ≡ asks_own self.now.code }
     {
-        own::asks_own(self.code.code())
+        own::asks_own(self.code.checked().code())
     }
 
     /// Exposes the invariant: the code was accepted under some schema, for a part that may not write. Does nothing.

@@ -17,15 +17,15 @@ use crate::found::Found;
 use crate::question::Question;
 use bb_basis::Text;
 use bb_bundle::{ActDraft, ReactionDraft, SourceDraft};
+use bb_exec_lower::Lowered;
 use bb_schema::{ClassId, Schema};
-use bb_verify::Checked;
 use std::alloc::Global;
 use std::marker::Model;
 
 /// What an activation of a source does.
 pub enum Act {
     /// The source executes a code.
-    Code(Checked),
+    Code(Lowered),
     /// The source calls a native of the host.
     Native,
 }
@@ -145,7 +145,7 @@ impl Source {
     pub fn new(
         alloc: Global,
         schema: &Schema,
-        draft: SourceDraft<Checked>,
+        draft: SourceDraft<Lowered>,
     ) -> Result<Source, RuleFault>
         ensures made { Gives RuleFault.Memory (λ s. s) result (source_of schema.now draft) }
         ensures law { IfOk result (λ s. IsOf schema.now s) }
@@ -207,12 +207,12 @@ fn act_fits(act: &Act)
 {
     if let Act::Code(code) = act {
         // For the proof: the code's invariant.
-        code.fits();
+        code.checked().fits();
     }
 }
 
 // Puts together the parts of a source from its draft and what the draft's names stand for.
-fn source_with(found: Found, draft: SourceDraft<Checked>) -> SourceParts
+fn source_with(found: Found, draft: SourceDraft<Lowered>) -> SourceParts
     requires { parts_fit found.classes draft ≡ Ok tt }
     ensures { result ≡ source_with found draft }
 {
@@ -240,7 +240,7 @@ fn source_with(found: Found, draft: SourceDraft<Checked>) -> SourceParts
     }
 }
 
-fn question_of(code: Option<Checked>) -> Option<Question>
+fn question_of(code: Option<Lowered>) -> Option<Question>
     requires { IfSome code (λ c. writes c.part ≡ Err Effect) }
     ensures { result ≡ code }
 {
@@ -250,7 +250,7 @@ fn question_of(code: Option<Checked>) -> Option<Question>
 fn reaction_with(
     class: Option<ClassId>,
     clauses: Option<Clauses>,
-    draft: Option<ReactionDraft<Checked>>,
+    draft: Option<ReactionDraft<Lowered>>,
 ) -> Option<Reaction>
     requires { IfSome class (λ _. IfSome draft (λ d. writes d.code.part ≡ Err Effect)) }
     ensures { result ≡ reaction_with class clauses draft }
@@ -262,7 +262,7 @@ fn reaction_with(
     })
 }
 
-fn act_of(draft: ActDraft<Checked>) -> Act
+fn act_of(draft: ActDraft<Lowered>) -> Act
     ensures { result ≡ act_of draft }
 {
     match draft {

@@ -3,9 +3,10 @@
 
 use bb_board::{Change, ChangeKind, Event};
 use bb_bundle::{ActDraft, Parts, SourceDraft, unbundle};
+use bb_exec_lower::Lowered;
 use bb_rules::{Clause, RuleFault, Source};
 use bb_schema::{ClassId, Schema};
-use bb_verify::{Checked, Part, verify};
+use bb_verify::{Part, verify};
 use std::alloc::Global;
 use std::test::Fail;
 
@@ -43,13 +44,14 @@ fn source_of(
         act,
     } = sources.pop().ok_or("one source is written")?.into_draft();
     let code = code_of(act)?;
-    let act: ActDraft<Checked> = ActDraft::Do(verify(alloc, schema, part, code)?);
-    let checked = SourceDraft {
+    let checked = verify(alloc, schema, part, code)?;
+    let act: ActDraft<Lowered> = ActDraft::Do(Lowered::of(alloc, checked)?);
+    let draft = SourceDraft {
         header,
         parts: Parts::none(),
         act,
     };
-    Ok(Source::new(alloc, schema, checked))
+    Ok(Source::new(alloc, schema, draft))
 }
 
 fn changed(class: ClassId, change: Change) -> Event {

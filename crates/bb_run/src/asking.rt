@@ -8,9 +8,9 @@ ghost use Rattle.bb_run.specs.Serving.{CanExecute};
 ghost use Rattle.bb_run.specs.Emitting.{Attempts, Replies};
 
 use bb_exec::{Answer, Entry, Outcome, Stop, exec};
+use bb_exec_lower::Lowered;
 use bb_schema::UnitId;
 use bb_trace::{Board, End, Question};
-use bb_verify::Checked;
 use std::alloc::{AllocError, Global};
 
 /// The reply of a code that was asked.
@@ -31,7 +31,7 @@ pub(crate) fn entry_of(it: UnitId, ev: Option<UnitId>) -> Entry
 /// Executes a code for an entry. The errors: no unit can be created, or out of memory.
 pub(crate) fn attempt(
     alloc: Global,
-    code: &Checked,
+    code: &Lowered,
     entry: Entry,
     board: &mut Board,
 ) -> Result<Outcome, Stop>
@@ -55,7 +55,7 @@ pub(crate) fn ask(
 {
     // For the proof: a question only reads.
     code.fits();
-    match attempt(alloc, code.checked(), entry, board) {
+    match attempt(alloc, code.lowered(), entry, board) {
         Ok(outcome) => Ok(Reply::Answer(outcome.answer)),
         Err(Stop::Full { .. }) => Ok(Reply::Over(End::FULL)),
         Err(Stop::Memory) => Err(AllocError),

@@ -17,8 +17,8 @@ use crate::noting::take_noted;
 use crate::state::State;
 use bb_agenda::Activation;
 use bb_exec::{Answer, Stop};
+use bb_exec_lower::Lowered;
 use bb_trace::{Act, Board, End, NativeSource, Note, Question, Source};
-use bb_verify::Checked;
 use std::alloc::{AllocError, Global};
 
 /// The verdict of a revalidation on a chosen activation.
@@ -136,7 +136,7 @@ fn execute_native<N: NativeSource>(
 }
 
 fn execute_code<N: NativeSource>(
-    code: &Checked,
+    code: &Lowered,
     activation: Activation,
     state: &mut State<N>,
     notes: &mut Vec<Note>,
@@ -151,7 +151,7 @@ fn execute_code<N: NativeSource>(
             let ended = Note::Ended {
                 steps: outcome.steps,
                 found: outcome.found,
-                budget: code.budget(outcome.found),
+                budget: code.checked().budget(outcome.found),
             };
             take_noted(state, Some(ended), notes)?;
             Ok(None)

@@ -10,10 +10,11 @@ ghost use Rattle.bb_run.specs.MadeSource.{classes_of};
 use bb_basis::Text;
 use bb_bundle::{ActDraft, Parts, ReactionDraft, SourceDraft};
 use bb_code::Code;
+use bb_exec_lower::Lowered;
 use bb_refusal::InputFault;
 use bb_run::Classes;
 use bb_schema::Schema;
-use bb_verify::{Checked, Flaw, Part, VerifyFault, verify};
+use bb_verify::{Flaw, Part, VerifyFault, verify};
 use std::alloc::Global;
 
 /// Why a source's code is not accepted.
@@ -31,7 +32,7 @@ pub(crate) fn accept(
     alloc: Global,
     schema: &Schema,
     draft: SourceDraft<Code>,
-) -> Result<SourceDraft<Checked>, InputFault>
+) -> Result<SourceDraft<Lowered>, InputFault>
     ensures { Gives InputFault.Memory (λ d. d) result (accepted_source schema.now draft) }
 {
     let (name, classes) = look_up(alloc, schema, &draft)?;
@@ -58,8 +59,8 @@ fn look_up(
 // The accepted source with this name; a fault of its codes becomes a fault of the source.
 fn in_source(
     name: Text,
-    accepted: Result<SourceDraft<Checked>, CodeFault>,
-) -> Result<SourceDraft<Checked>, InputFault>
+    accepted: Result<SourceDraft<Lowered>, CodeFault>,
+) -> Result<SourceDraft<Lowered>, InputFault>
     ensures { result ≡ map_err (in_source name) accepted }
 {
     match accepted {
@@ -76,7 +77,7 @@ fn accept_parts(
     schema: &Schema,
     classes: Classes,
     mut codes: Parts<Code>,
-) -> Result<Parts<Checked>, CodeFault>
+) -> Result<Parts<Lowered>, CodeFault>
     ensures { Gives OutOfMemory (λ p. p) result (accepted_parts schema.now classes codes) }
 {
     let class = classes.own;
@@ -109,7 +110,7 @@ fn accept_draft(
     schema: &Schema,
     classes: Classes,
     draft: SourceDraft<Code>,
-) -> Result<SourceDraft<Checked>, CodeFault>
+) -> Result<SourceDraft<Lowered>, CodeFault>
     ensures { Gives OutOfMemory (λ d. d) result (accepted_draft schema.now classes draft) }
 {
     let SourceDraft { header, parts, act } = draft;
@@ -119,11 +120,15 @@ fn accept_draft(
     Ok(SourceDraft { header, parts, act })
 }
 
-fn accept_code(alloc: Global, schema: &Schema, part: Part, code: Code) -> Result<Checked, CodeFault>
+// Accepts a code for a part, and makes its instructions.
+fn accept_code(alloc: Global, schema: &Schema, part: Part, code: Code) -> Result<Lowered, CodeFault>
     ensures { Gives OutOfMemory (λ c. c) result (accepted_code schema.now part code) }
 {
     match verify(alloc, schema, part, code) {
-        Ok(checked) => Ok(checked),
+        Ok(checked) => match Lowered::of(alloc, checked) {
+            Ok(lowered) => Ok(lowered),
+            Err(_) => Err(CodeFault::Memory),
+        },
         Err(
             VerifyFault {
                 flaw: Flaw::Memory,
@@ -140,7 +145,7 @@ fn accept_part(
     schema: &Schema,
     part: Part,
     code: Option<Code>,
-) -> Result<Option<Checked>, CodeFault>
+) -> Result<Option<Lowered>, CodeFault>
     ensures { Gives OutOfMemory (λ c. c) result (accepted_part schema.now part code) }
 {
     match code {
@@ -155,7 +160,7 @@ fn accept_reaction(
     schema: &Schema,
     part: Option<Part>,
     draft: Option<ReactionDraft<Code>>,
-) -> Result<Option<ReactionDraft<Checked>>, CodeFault>
+) -> Result<Option<ReactionDraft<Lowered>>, CodeFault>
     ensures { Gives OutOfMemory (λ d. d) result (accepted_reaction schema.now part draft) }
 {
     let (Some(part), Some(draft)) = (part, draft) else {
@@ -174,7 +179,7 @@ fn accept_act(
     schema: &Schema,
     part: Part,
     draft: ActDraft<Code>,
-) -> Result<ActDraft<Checked>, CodeFault>
+) -> Result<ActDraft<Lowered>, CodeFault>
     ensures { Gives OutOfMemory (λ d. d) result (accepted_act schema.now part draft) }
 {
     match draft {

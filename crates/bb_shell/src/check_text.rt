@@ -64,7 +64,7 @@ fn add_act(text: &mut String, name: &str, act: &Act) -> Result<(), AllocError>
     ensures { OnOk result (string_bytes text.new ≡ string_bytes text.old ++ act_text name.now act.now) }
 {
     match act {
-        Act::Code(code) => add_line(text, name, "do", code),
+        Act::Code(code) => add_line(text, name, "do", code.checked()),
         Act::Native => writeln!(text, "{name} native"),
     }
 }

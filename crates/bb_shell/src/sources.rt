@@ -10,10 +10,10 @@ use crate::accepting::accept;
 use crate::fitting::{SourceSet, Unfit};
 use bb_basis::Text;
 use bb_bundle::{SourceCode, SourceDraft};
+use bb_exec_lower::Lowered;
 use bb_refusal::InputFault;
 use bb_run::{Closing, RuleFault, SOURCE_LIMIT, Source};
 use bb_schema::Schema;
-use bb_verify::Checked;
 use std::alloc::{AllocError, Global};
 
 /// The outcome of the sources so far, whose codes are all accepted.
@@ -70,7 +70,7 @@ fn gather(
     natives: &[Closing],
     schema: &Schema,
     resolution: Resolution,
-    draft: SourceDraft<Checked>,
+    draft: SourceDraft<Lowered>,
 ) -> Result<Resolution, AllocError>
     ensures { IfOk result (λ g. resolution_as g
         ≡ with_draft (names_in natives.now) schema.now (resolution_as resolution) draft) }
@@ -91,7 +91,7 @@ fn gather_fit(
     natives: &[Closing],
     schema: &Schema,
     source_set: SourceSet,
-    draft: SourceDraft<Checked>,
+    draft: SourceDraft<Lowered>,
 ) -> Result<Resolution, AllocError>
     ensures { IfOk result (λ g.
         resolution_as g ≡ with_draft (names_in natives.now) schema.now (Ok (Ok source_set)) draft) }
@@ -108,7 +108,7 @@ fn gather_unfit(
     natives: &[Closing],
     schema: &Schema,
     unfit: Unfit,
-    draft: SourceDraft<Checked>,
+    draft: SourceDraft<Lowered>,
 ) -> Result<Resolution, AllocError>
     ensures { IfOk result (λ g. resolution_as g ≡ with_draft (names_in natives.now) schema.now (Ok (Err unfit)) draft) }
 {
@@ -125,7 +125,7 @@ fn gather_unfit(
 fn resolve(
     alloc: Global,
     schema: &Schema,
-    draft: SourceDraft<Checked>,
+    draft: SourceDraft<Lowered>,
 ) -> Result<Result<Source, InputFault>, AllocError>
     ensures { IfOk result (λ r. r ≡ resolved_source schema.now draft) }
 {

@@ -9,20 +9,24 @@ use crate::input::{HAIL, NOTE_SCHEMA, ONE_NOTE};
 use crate::natives::{Recorder, no_natives};
 use bb_bundle::{ActDraft, Parts, SourceCode, SourceDraft, unbundle};
 use bb_code::Code;
+use bb_exec_lower::Lowered;
 use bb_schema::Schema;
 use bb_shell::{Board, Finish, Part, Pipe, Roster, RuleFault, Shell, Source};
-use bb_verify::{Checked, verify};
+use bb_verify::verify;
 use std::alloc::Global;
 use std::test::Fail;
 
 const PART: Part = Part::Do { class: 1 };
 
 // The verified act of a source on notes.
-fn verified(alloc: Global, schema: &Schema, act: ActDraft<Code>) -> Result<ActDraft<Checked>, Fail>
+fn verified(alloc: Global, schema: &Schema, act: ActDraft<Code>) -> Result<ActDraft<Lowered>, Fail>
     ensures { IfOk result (λ act. (c : Accepted) → act ≡ Does c → IsAccepted schema.now c) }
 {
     match act {
-        ActDraft::Do(code) => Ok(ActDraft::Do(verify(alloc, schema, PART, code)?)),
+        ActDraft::Do(code) => {
+            let checked = verify(alloc, schema, PART, code)?;
+            Ok(ActDraft::Do(Lowered::of(alloc, checked)?))
+        }
         ActDraft::Native => Ok(ActDraft::Native),
     }
 }

@@ -25,11 +25,6 @@ pub use Rattle.bb_verify_effect.specs.Frame
 pub use Rattle.bb_verify_effect.specs.Kinds
 pub use Rattle.bb_verify_effect.specs.declared.frame.Frame as FrameType
 pub use Rattle.bb_verify_effect.specs.declared.part.Part as PartType
--- the instructions of a code
-pub use Rattle.bb_exec_lower.specs.Slots
-pub use Rattle.bb_exec_lower.specs.Room
-pub use Rattle.bb_exec_lower.specs.Lowered
-pub use Rattle.bb_exec_lower.specs.declared.instruction.Instruction
 -- checks in sequence, and the faults of a code
 pub use Rattle.bb_verify_effect.specs.Each
 pub use Rattle.bb_verify_effect.specs.Flaws

@@ -1,4 +1,4 @@
-//! The verifier. Whoever makes sources (bb_rules, bb_shell) calls it once for each code.
+//! The verifier. bb_shell and hosts that make sources call it once for every code.
 
 ghost use Rattle.std.specs.Prelude.{◌≡◌, IfOk, Ok};
 ghost use Rattle.bb_basis.specs.Results.{Gives};
@@ -10,12 +10,11 @@ use crate::checked::{Checked, counts_of};
 use crate::nesting::{check_jumps, check_loops};
 use crate::places::frames_of;
 use crate::tables::check_tables;
-use bb_exec_lower::lower;
 use bb_verify_effect::{Code, Part, Schema, VerifyFault};
 use std::alloc::Global;
 
-/// Accepts a code for a part of a source, or returns its first fault: of the tables, of the jumps, of the loops, and
-/// then place by place. At a fault, and where memory runs out, the code is dropped.
+/// Accepts a code for a part of a source, or returns its first fault: of the tables, of the jumps, of the loops, then
+/// place by place. After a fault, or if memory runs out, the code is dropped.
 #[tactic(auto, unfolding(crate::specs::Accepted::accepted, crate::specs::Accepted::checked))]
 pub fn verify(
     alloc: Global,
@@ -31,7 +30,6 @@ pub fn verify(
     check_jumps(&code)?;
     let depths = check_loops(alloc, &code)?;
     let frames = frames_of(alloc, schema, part, &code)?;
-    let instructions = lower(alloc, &code, &frames)?;
     let places_in = counts_of(depths.as_slice());
-    Ok(Checked::new(code, part, frames, instructions, places_in))
+    Ok(Checked::new(code, part, frames, places_in))
 }

@@ -13,9 +13,10 @@ use crate::machines::executions::{add_end, add_notes};
 use bb_board::Board;
 use bb_code::Code;
 use bb_exec::{Outcome, Stop as Stopped, exec};
+use bb_exec_lower::Lowered;
 use bb_machine::{Entry, Stop};
 use bb_schema::{ClassId, Schema};
-use bb_verify::{Checked, Flaw, Part, VerifyFault, verify};
+use bb_verify::{Flaw, Part, VerifyFault, verify};
 use std::alloc::{AllocError, Global};
 
 // Returns whether an entry has no event, and its unit had a class.
@@ -57,7 +58,7 @@ pub(crate) fn entry_fits(board: &Board, part: Part, entry: Entry) -> bool
 // Executes an accepted code for an entry, if the entry fits the code's part.
 fn exec_if_fits(
     alloc: Global,
-    code: &Checked,
+    code: &Lowered,
     board: &mut Board,
     entry: Entry,
 ) -> Option<Result<Outcome, Stop>>
@@ -66,7 +67,7 @@ fn exec_if_fits(
         Gives OutOfMemory (λ o. o) ended (execution code.now entry board.old).0) }
     ensures none { result ≡ None → board.new ≡ board.old }
 {
-    if !entry_fits(board, code.part(), entry) {
+    if !entry_fits(board, code.checked().part(), entry) {
         return None;
     }
     Some(as_defensive(exec(alloc, code, board, entry)))
@@ -97,10 +98,10 @@ pub(crate) fn add_accepted(
         return Ok(false);
     }
     let alloc = *text.allocator();
-    let Some(checked) = accepted(alloc, board.schema(), part, copied(alloc, code)?)? else {
+    let Some(lowered) = accepted(alloc, board.schema(), part, copied(alloc, code)?)? else {
         return Ok(false);
     };
-    match exec_if_fits(alloc, &checked, board, entry) {
+    match exec_if_fits(alloc, &lowered, board, entry) {
         None => Ok(false),
         Some(ended) => {
             add_end(text, ended)?;
@@ -110,17 +111,17 @@ pub(crate) fn add_accepted(
     }
 }
 
-// Returns the verified code, if it is accepted.
+// Returns the verified code with its instructions, if it is accepted.
 fn accepted(
     alloc: Global,
     schema: &Schema,
     part: Part,
     code: Code,
-) -> Result<Option<Checked>, AllocError>
-    ensures { IfOk result (λ checked. IfSome checked (λ c. Facts schema.now c.part c.code c.frames)) }
+) -> Result<Option<Lowered>, AllocError>
+    ensures { IfOk result (λ lowered. IfSome lowered (λ c. Facts schema.now c.part c.code c.frames)) }
 {
     match verify(alloc, schema, part, code) {
-        Ok(checked) => Ok(Some(checked)),
+        Ok(checked) => Ok(Some(Lowered::of(alloc, checked)?)),
         Err(
             VerifyFault {
                 place: _,

@@ -1,6 +1,8 @@
-use Rattle.std.proofs.Common.{◌∷◌, [], None, Some, Ok, Err, subst}
+use Rattle.std.proofs.Common.{◌∙◌, ◌∷◌, [], None, Some, Ok, Err, ap, subst}
 use Rattle.bb_exec.specs.declared.stop.Stop.{Stop}
 use Rattle.bb_theorem_machine.specs.Stop.TheVariants as stops
+use Rattle.bb_verify.specs.Accepted.{Checked}
+use Rattle.bb_verify.specs.Budget.{budget}
 use Rattle.bb_trace.specs.End as ends
 use Rattle.bb_trace.specs.declared.note.Note.TheVariants.{Ended}
 use Rattle.bb_run.specs.Asking.{attempt}
@@ -19,7 +21,7 @@ returns-in_ok-take_noted-in-Ok g c =
     let new = c.take_noted.new.notes.items in
     let t = (seen g.N.NativeSource.meaning c.take_noted.new.state) in
     execution_noted old new (seen g.N.NativeSource.meaning c.args.state.now) t None c.attempt.new.board c.args.code.now c.args.activation c.entry_of-entry.result (Ok o) c.entry_of-entry.ensures c.in-Ok.ensures.attempted.0 c.in-Ok.ensures.attempted.1
-    (subst (λ b. IsResponse (noted s (Ended o.steps o.found b ∷ []) None) old new t None) c.budget.ensures (c.in_ok-take_noted-in-Ok.ensures None))
+    (subst (λ b. IsResponse (noted s (Ended o.steps o.found b ∷ []) None) old new t None) (c.budget.ensures ∙ ap (λ (x : Checked). budget x.code o.found) c.checked.ensures) (c.in_ok-take_noted-in-Ok.ensures None))
 
 pub returns-in_ok-take_noted-in-Err-Full : goal.returns-in_ok-take_noted-in-Err-Full
 returns-in_ok-take_noted-in-Err-Full g c =

@@ -12,9 +12,6 @@ use Rattle.bb_verify.proofs.verifier.verify.Goals as goal
 pub frames_of-requires : goal.frames_of-requires
 frames_of-requires c = tables_fit c.args.schema.now c.args.part c.args.code c.in_ok-check_tables.field-0 c.in_ok-check_tables.ensures
 
-pub lower-requires : goal.lower-requires
-lower-requires c = frames_long c.args.schema.now c.args.part c.args.code c.in_ok-frames.frames c.in_ok-frames.ensures
-
 pub counts_of-places_in-requires : goal.counts_of-places_in-requires
 counts_of-places_in-requires c =
     let code : IsCode c.args.code = subst IsCode c.code.view_is c.code.invariant in
