@@ -18,6 +18,5 @@ pub use Rattle.bb_agenda.specs.focusing.Matching
 pub use Rattle.bb_agenda.specs.declared.focusing.activation.Activation
 pub use Rattle.bb_agenda.specs.declared.focusing.focus.Focus
 pub use Rattle.bb_agenda.specs.declared.focusing.setting.RatedSource
--- how foci rate activations: which activations a focus matches, and the rating of an activation, its base plus the
 -- weights of the foci that match it
 pub mod focusing

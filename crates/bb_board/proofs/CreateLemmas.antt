@@ -8,9 +8,9 @@ use Rattle.bb_units.specs.Units.{next_number, is_full}
 use Rattle.bb_board.specs.declared.units_fault.UnitsFault.{UnitsFault}
 use Rattle.bb_board.specs.declared.units_fault.UnitsFault.TheVariants.{Memory}
 use Rattle.bb_board.specs.declared.units_fault.UnitsFlaw.TheVariants.{Full}
-use Rattle.bb_board_state.specs.State.{World}
+use Rattle.bb_board.specs.State.{World}
 use Rattle.bb_board.specs.UnitsFaults.{here, of_create_fault}
-use Rattle.bb_board_state.specs.World.{after_create}
+use Rattle.bb_board.specs.World.{after_create}
 use Rattle.bb_board.specs.Load.{with_unit}
 
 -- one test decides whether there is a number and whether a unit is made

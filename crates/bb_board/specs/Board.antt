@@ -1,13 +1,13 @@
--- A blackboard (Hayes-Roth, 1985): its schema, its state, and whether memory was refused to a change. From then on each
+-- A blackboard (Hayes-Roth, 1985): its schema, its state, and whether a change was refused memory. After that every
 -- change is refused.
 use Rattle.std.specs.Prelude.{Bool, true, false, if◌then◌else◌}
 use Rattle.bb_schema.specs.Schema.{Schema}
 use Rattle.bb_units.specs.declared.fault.CreateFault.{CreateFault}
 use Rattle.bb_units.specs.declared.fault.CreateFault.TheVariants as creates
 use Rattle.bb_board.specs.declared.units_fault.UnitsFault.{UnitsFault}
-use Rattle.bb_board_state.specs.State.{World}
+use Rattle.bb_board.specs.State.{World}
 use Rattle.bb_board.specs.UnitsFaults.{is_memory}
-use Rattle.bb_board_state.specs.World.{empty_world, is_fresh as is_fresh_world}
+use Rattle.bb_board.specs.World.{empty_world, is_fresh as is_fresh_world}
 
 pub record Board : Type 0 where
   pub schema : Schema
@@ -22,7 +22,7 @@ new_board s = record { schema = s; world = empty_world s; refused = false }
 abbrev pub with_world : Board → World → Board
 with_world b w = record { schema = b.schema; world = w; refused = b.refused }
 
--- a blackboard, once memory was refused
+-- a blackboard after a change was refused memory
 abbrev pub when_refused : Board → Board
 when_refused b = record { schema = b.schema; world = b.world; refused = true }
 

@@ -22,21 +22,21 @@ use Rattle.bb_board.specs.declared.units_fault.UnitsFault.{UnitsFault}
 use Rattle.bb_board.specs.declared.units_fault.UnitsFault.TheVariants.{At, Memory}
 use Rattle.bb_board.specs.declared.units_fault.UnitsFlaw.TheVariants.{Json, Shape, Twice, Unknown, Kind, Full}
 use Rattle.bb_schema_form.specs.declared.place.ListKey.TheVariants as lists
-use Rattle.bb_board_state.specs.State.{World}
-use Rattle.bb_board_state.specs.World.{empty_world, class_at, after_create, after_set}
+use Rattle.bb_board.specs.State.{World}
+use Rattle.bb_board.specs.World.{empty_world, class_at, after_create, after_set}
 use Rattle.bb_board.specs.UnitsFaults.{here, inside, of_reason}
-use Rattle.bb_board_state.specs.Links.{after_link}
-use Rattle.bb_board_state.specs.May.{may_set, may_link}
-use Rattle.bb_board_state.specs.Spaces.{may_enter, after_enter}
+use Rattle.bb_board.specs.Links.{after_link}
+use Rattle.bb_board.specs.May.{may_set, may_link}
+use Rattle.bb_board.specs.Spaces.{may_enter, after_enter}
 use Rattle.bb_board.specs.Board.{Board, with_world}
 
--- a fault of the document as one of its units
+-- a fault of the document's form as a fault of first units
 abbrev pub fault_of : DocumentFault → UnitsFault
 fault_of documents.Json = here Json
 fault_of (documents.Shape place) = At Shape place
 fault_of documents.Memory = Memory
 
--- how far the walk over the units has come: the units so far under their names, and the blackboard's state
+-- the walk over the units so far: the units by name, and the blackboard's state
 pub record Progress : Type 0 where
   pub names : map.FinMap (slice_cmp nat_cmp) ℕ
   pub world : World
@@ -49,20 +49,20 @@ no_progress s = record { names = map.empty; world = empty_world s }
 unfoldable pub with_unit : World → ℕ → Result World UnitsFault
 with_unit w class = if is_full w.units then Err (here Full) else Ok (after_create w class)
 
--- the name is that of an ordinary slot of the class
+-- a name is that of an ordinary slot of a class
 abbrev pub is_ordinary_in : Schema → ℕ → List ℕ → Bool
 is_ordinary_in schema class name =
     option_map_or (λ slot. is_some (default_of schema slot)) (slot_named schema class name) false
 
--- each value is given for an ordinary slot of the class
+-- every value is given for an ordinary slot of a class
 abbrev pub are_slots : Schema → ℕ → List GivenDeclaration → Bool
 are_slots schema class given = list_all (λ g. is_ordinary_in schema class g.slot) given
 
--- the first value that is given for a name
+-- the first value given for a name
 unfoldable pub given_for : List ℕ → List GivenDeclaration → Option ValueDeclaration
 given_for name given = option_map (λ g. g.value) (find (λ g. bytes_eq name g.slot) given)
 
--- what a given value is in a slot of a kind, whether it fits or not: a label is given by its name
+-- a given value as one of a slot's kind, whether the slot can hold it or not: a label is given by its name
 unfoldable pub value_in : Schema → SlotKind → ValueDeclaration → Option Value
 value_in schema kinds.Int (int_value z) = Some (values.Int z)
 value_in schema kinds.Text (text_value t) = Some (values.Text t)
@@ -72,22 +72,22 @@ value_in schema (kinds.Label set) (text_value t) =
 value_in schema kinds.Interval (interval_value low high) = Some (values.Interval low high)
 value_in schema _ _ = None
 
--- what a given value is in a slot
+-- a given value as one of a slot
 abbrev pub value_at : Schema → (slot : ℕ) → ValueDeclaration → Option Value
 value_at schema slot given = option_and_then (λ kind. value_in schema kind given) (kind_of_slot schema slot)
 
--- a unit's slot holds a value that is given for it, if it may
+-- a unit's slot set to the value given for it, if the slot can hold it
 unfoldable pub with_value : Schema → (unit : ℕ) → World → (slot : ℕ) → ValueDeclaration → Result World UnitsFault
 with_value schema n w slot given = do
   value ← ok_or (value_at schema slot given) (here Kind)
   if is_ok (may_set w n slot value) then Ok (after_set schema w n slot value) else Err (here Kind)
 
--- a unit's slot holds the value that is given for it, if one is given
+-- a unit's slot set to the value given for it, if one is given
 abbrev pub if_given : Schema → (unit : ℕ) → World → (slot : ℕ) → Option ValueDeclaration → Result World UnitsFault
 if_given schema n w slot None = Ok w
 if_given schema n w slot (Some given) = with_value schema n w slot given
 
--- the value that is given for a slot
+-- the value given for a slot
 abbrev pub given_at : Schema → List GivenDeclaration → (slot : ℕ) → Option ValueDeclaration
 given_at schema given slot = option_and_then (λ name. given_for name given) (name_of_slot schema slot)
 
@@ -95,12 +95,12 @@ given_at schema given slot = option_and_then (λ name. given_for name given) (na
 unfoldable pub slot_after : Schema → (unit : ℕ) → List GivenDeclaration → World → (slot : ℕ) → Result World UnitsFault
 slot_after schema n given w slot = if_given schema n w slot (given_at schema given slot)
 
--- a new unit with the values that its entry gives: each is for an ordinary slot, and they are set in class order
+-- a new unit with the values that its entry gives: all are for ordinary slots, and they are set in class order
 unfoldable pub with_values : Schema → (unit class : ℕ) → List GivenDeclaration → World → Result World UnitsFault
 with_values schema n class given w =
     if are_slots schema class given then try_fold (slot_after schema n given) w (slots_of schema class) else Err (here Unknown)
 
--- the walk after one more unit, or what is wrong with its entry
+-- the walk after one more unit, or the fault of its entry
 unfoldable pub entry_after : Schema → Progress → UnitDeclaration → Result Progress UnitsFault
 entry_after schema so_far entry = if map.contains_key so_far.names entry.name then Err (here Twice) else (do
   class ← ok_or (class_named schema entry.class) (here Unknown)
@@ -108,8 +108,8 @@ entry_after schema so_far entry = if map.contains_key so_far.names entry.name th
   world ← with_values schema so_far.world.units.next class entry.slots created
   Ok (record { names = map.insert so_far.names entry.name so_far.world.units.next; world = world }))
 
--- a blackboard's state after one more link, or what is wrong with its entry: a unit that is not there, or no link slot
--- of the name, and then a partner that is not of the class that the slot leads to
+-- a blackboard's state after one more link, or the fault of its entry: first a unit or a link slot that does not exist,
+-- then a partner that is not of the class that the slot leads to
 unfoldable pub link_after : Schema → map.FinMap (slice_cmp nat_cmp) ℕ → World → FirstLinkDeclaration → Result World UnitsFault
 link_after schema names w entry = do
   n ← ok_or (map.get names entry.from) (here Unknown)
@@ -118,8 +118,8 @@ link_after schema names w entry = do
   allowed ← map_err of_reason (may_link schema w n slot m)
   Ok (after_link schema w n slot m)
 
--- a blackboard's state after one more unit is in a space, or what is wrong with its entry: a unit or a space that is
--- not there, and then a unit of a class that the space does not take
+-- a blackboard's state after one more unit is in a space, or the fault of its entry: first a unit or a space that does
+-- not exist, then a unit of a class that the space does not take
 unfoldable pub member_after : Schema → map.FinMap (slice_cmp nat_cmp) ℕ → World → MemberDeclaration → Result World UnitsFault
 member_after schema names w entry = do
   n ← ok_or (map.get names entry.unit) (here Unknown)
@@ -127,8 +127,8 @@ member_after schema names w entry = do
   allowed ← map_err of_reason (may_enter schema w n space)
   Ok (after_enter schema w n space)
 
--- the state that a text means: what it makes of a blackboard before anything was created, first its units, then its
--- links, and then who is in its spaces
+-- the state that a text means: what it makes of a blackboard with no units, first its units, then its links, then the
+-- members of its spaces
 unfoldable pub load : Schema → List ℕ → Result World UnitsFault
 load schema text = do
   declared ← map_err fault_of (units_document_of text)
@@ -136,6 +136,6 @@ load schema text = do
   linked ← try_fold_at (inside lists.Links) (link_after schema units.names) 0 units.world declared.links
   try_fold_at (inside lists.Spaces) (member_after schema units.names) 0 linked declared.spaces
 
--- a blackboard in that state
+-- a blackboard with that state
 abbrev pub loaded : Board → List ℕ → Result Board UnitsFault
 loaded b text = load b.schema text >>= λ w. Ok (with_world b w)

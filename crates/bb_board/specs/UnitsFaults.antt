@@ -1,9 +1,9 @@
--- Faults of a units document: the numbers by which refusals name them, and their places.
+-- Faults of a document of first units: their numbers in refusals, and their places.
 use Rattle.std.specs.Prelude.{ℕ, Bool, true, false}
 use Rattle.bb_units.specs.declared.fault.CreateFault.{CreateFault}
 use Rattle.bb_units.specs.declared.fault.CreateFault.TheVariants.{Full as NoMoreUnits, Memory as NoMemory}
-use Rattle.bb_board_state.specs.declared.reason.Reason.{Reason}
-use Rattle.bb_board_state.specs.declared.reason.Reason.TheVariants as reasons
+use Rattle.bb_board.specs.declared.reason.Reason.{Reason}
+use Rattle.bb_board.specs.declared.reason.Reason.TheVariants as reasons
 use Rattle.bb_board.specs.declared.units_fault.UnitsFault.{UnitsFault}
 use Rattle.bb_board.specs.declared.units_fault.UnitsFault.TheVariants.{At, Memory}
 use Rattle.bb_board.specs.declared.units_fault.UnitsFlaw.{UnitsFlaw}
@@ -27,7 +27,7 @@ abbrev pub fault_number : UnitsFault → ℕ
 fault_number (At flaw place) = flaw_number flaw
 fault_number Memory = 9
 
--- the fault of what is read itself
+-- a fault of what is read, as a whole
 abbrev pub here : UnitsFlaw → UnitsFault
 here flaw = At flaw Whole
 
@@ -46,7 +46,8 @@ abbrev pub of_create_fault : CreateFault → UnitsFault
 of_create_fault NoMoreUnits = here Full
 of_create_fault NoMemory = Memory
 
--- why a link may not be made, as a fault of the document that names it: a slot that is no link slot is not there
+-- why a link or an entry into a space may not be made, as a fault of the document that names it: a slot that is not a
+-- link slot counts as one that does not exist
 abbrev pub of_reason : Reason → UnitsFault
 of_reason reasons.Deleted = here Unknown
 of_reason reasons.Slot = here Unknown

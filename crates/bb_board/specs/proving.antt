@@ -1,7 +1,11 @@
--- What only the invariants of models and the contracts of private functions speak of.
+-- What only invariants of models, contracts of private functions and proofs cite.
 -- how a blackboard is stored as data that can be told apart
 pub mod Codes
--- how far the loader's walk has come, seen as the definitions see it
+-- the loader's walk so far, as definitions see it
 pub mod Reading
--- units under their names, as the code keeps them
+-- units by name, as the code keeps them
 pub mod Naming
+-- units that are deleted one after another, computed from the state before
+pub mod Deleted
+-- units that are found one after another
+pub mod Found

@@ -1,5 +1,5 @@
-//! The names of a document's units. The loader adds each new name, by which it learns whether the name was there
-//! already, and finds the units of links by them.
+//! The units of a document by name. `loader` adds each unit, which shows whether its name was used before, and looks up
+//! the units of links and spaces.
 
 ghost use Rattle.std.specs.Prelude.{◌≡◌, IfOk, OnOk, OnErr};
 ghost use Rattle.std.specs.FinMap as map;
@@ -10,7 +10,7 @@ use std::alloc::Global;
 use std::collections::BTreeMap;
 use std::marker::Model;
 
-/// Units under their names, found by the order of names and not by a hash, so that no choice of names makes it slow.
+/// Units by name, ordered and not hashed, so that no choice of names makes look-ups slow.
 pub(crate) struct UnitNames {
     units: BTreeMap<String, UnitId>,
 }
@@ -38,7 +38,7 @@ impl Model for UnitNames {
 }
 
 impl UnitNames {
-    /// No names. It allocates nothing.
+    /// Makes an empty map. Allocates nothing.
     pub(crate) fn new(alloc: Global) -> UnitNames
         ensures { result ≡ map.empty }
     {
@@ -47,14 +47,14 @@ impl UnitNames {
         }
     }
 
-    /// The unit of a name.
+    /// Returns the unit of a name.
     pub(crate) fn get(&self, name: &str) -> Option<UnitId>
         ensures { result ≡ map.get self.now name.now }
     {
         self.units.get(name).copied()
     }
 
-    /// Gives a unit a name, and returns the unit that had it. An error changes nothing.
+    /// Gives a unit a name, and returns the unit that had the name before. An error changes nothing.
     pub(crate) fn insert(
         &mut self,
         alloc: Global,

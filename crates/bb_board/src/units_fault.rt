@@ -1,4 +1,4 @@
-//! Why a document of first units is refused. The loader returns it, and a refusal line has its number (bb_shell).
+//! Why a document of first units is refused. `Board::load` returns it, and a refusal line has its number (bb_shell).
 
 ghost use Rattle.std.specs.Prelude.{◌≡◌};
 ghost use Rattle.bb_basis.specs.Results.{map_err};
@@ -6,7 +6,7 @@ ghost use Rattle.bb_board.specs.declared.units_fault.UnitsFault.TheVariants.{Mem
 ghost use Rattle.bb_board.specs.UnitsFaults.{flaw_number, fault_number, is_memory};
 ghost use Rattle.bb_board.specs.UnitsFaults.{here, inside, of_create_fault, of_reason};
 
-use bb_board_state::Reason;
+use crate::reason::Reason;
 use bb_schema_form::{DocumentPlace, ListKey};
 use bb_units::CreateFault;
 use std::alloc::{AllocError, AllocFailed};
@@ -18,13 +18,13 @@ pub enum UnitsFlaw {
     /// The text is not JSON.
     #[error("the units document is not JSON")]
     Json,
-    /// The JSON has not the form of first units: another key, a missing one, or a value of another form.
+    /// The JSON does not have the form of first units: another key, a missing one, or a value of another form.
     #[error("the units document has not the form of first units")]
     Shape,
-    /// An entry refers to what is not there.
+    /// An entry refers to something that does not exist.
     #[error("a reference to what is not there")]
     Unknown,
-    /// Two units have one name.
+    /// Two units have the same name.
     #[error("two units have one name")]
     Twice,
     /// A value does not fit its slot.
@@ -42,7 +42,7 @@ pub enum UnitsFlaw {
 }
 
 impl UnitsFlaw {
-    /// The number by which a refusal line names the flaw, from 1 to 8.
+    /// Returns the flaw's number in a refusal line, from 1 to 8.
     pub fn number(self) -> u8
         ensures { result ≡ flaw_number self }
     {
@@ -59,11 +59,10 @@ impl UnitsFlaw {
     }
 }
 
-/// Why the first units could not be made: the first flaw that the reading of their document meets, and the entry at
-/// which it stands.
+/// Why a document of first units is refused: the first flaw met in reading it, and the place of the flawed entry.
 #[derive(Clone, Copy, Debug, PartialEq, Eq, Error)]
 pub enum UnitsFault {
-    /// The flaw of the entry at the place; that of a text that is not JSON is of the whole document.
+    /// The flaw of the entry at the place. A text that is not JSON has its flaw at the whole document.
     #[error("{flaw}")]
     At {
         flaw: UnitsFlaw,
@@ -75,7 +74,7 @@ pub enum UnitsFault {
 }
 
 impl UnitsFault {
-    /// The number by which a refusal line names the fault, from 1 to 9.
+    /// Returns the fault's number in a refusal line, from 1 to 9.
     pub fn number(self) -> u8
         ensures { result ≡ fault_number self }
     {
@@ -85,14 +84,14 @@ impl UnitsFault {
         }
     }
 
-    /// Whether memory ran out.
+    /// Tests whether memory ran out.
     pub(crate) fn is_memory(self) -> bool
         ensures { result ≡ is_memory self }
     {
         matches!(self, UnitsFault::Memory)
     }
 
-    /// The fault of what is read itself.
+    /// Makes a fault of what is read, as a whole.
     pub(crate) fn here(flaw: UnitsFlaw) -> UnitsFault
         ensures { result ≡ here flaw }
     {
@@ -102,7 +101,7 @@ impl UnitsFault {
         }
     }
 
-    // The fault of an entry, its place seen from the value that lists the entry.
+    // Turns the fault of an entry into one whose place is seen from the value that lists the entry.
     fn inside(self, list: ListKey, index: usize) -> UnitsFault
         ensures { result ≡ inside list index self }
     {
@@ -116,7 +115,7 @@ impl UnitsFault {
     }
 }
 
-/// The answer of an entry of a list, a fault at its place in that list.
+/// Returns the answer for an entry of a list, with the place of a fault seen from the value that has the list.
 pub(crate) fn placed<T>(
     answer: Result<T, UnitsFault>,
     list: ListKey,

@@ -1,4 +1,4 @@
-//! The values that the entry of a first unit gives for its slots. The loader sets them.
+//! Sets the slots of a first unit to the values that its entry gives. `loader` calls it.
 
 ghost use Rattle.std.specs.Prelude.{◌≡◌, ◌<◌, IfOk, OnOk, length, map, option_map, is_some};
 ghost use Rattle.std.specs.List.{list_all};
@@ -9,14 +9,14 @@ ghost use Rattle.bb_board.specs.declared.units_fault.UnitsFault.TheVariants.{Mem
 ghost use Rattle.bb_board.specs.Load.{are_slots, given_at, given_for, if_given, is_ordinary_in, slot_after, value_at, value_in};
 ghost use Rattle.bb_board.specs.Load.{with_value, with_values};
 
+use crate::board::Board;
 use crate::units_fault::{UnitsFault, UnitsFlaw};
 use bb_basis::Text;
-use bb_board_state::World;
 use bb_schema::{ClassId, Kind, Schema, SlotId, UnitId, Value};
 use bb_schema_form::{GivenEntry, GivenValue};
 use std::alloc::{AllocError, Global};
 
-// Whether the name is that of an ordinary slot of a class.
+// Tests whether a name is that of an ordinary slot of a class.
 fn is_ordinary_in(schema: &Schema, class: ClassId, name: &str) -> bool
     ensures { result ≡ is_ordinary_in schema.now class name.now }
 {
@@ -26,7 +26,7 @@ fn is_ordinary_in(schema: &Schema, class: ClassId, name: &str) -> bool
     }
 }
 
-// Whether each value is given for an ordinary slot of a class.
+// Tests whether every value is given for an ordinary slot of a class.
 fn are_slots(schema: &Schema, class: ClassId, given: &[GivenEntry]) -> bool
     ensures { result ≡ are_slots schema.now class (map given_declaration given.now) }
 {
@@ -35,7 +35,7 @@ fn are_slots(schema: &Schema, class: ClassId, given: &[GivenEntry]) -> bool
         .all(|entry| is_ordinary_in(schema, class, entry.slot.as_str()))
 }
 
-// The first value that is given for a name.
+// Returns the first value given for a name.
 fn given_for<'a>(name: &str, given: &'a [GivenEntry]) -> Option<&'a GivenValue>
     ensures { option_map (λ v. value_declaration v.now) result ≡ given_for name.now (map given_declaration given.now) }
 {
@@ -43,7 +43,7 @@ fn given_for<'a>(name: &str, given: &'a [GivenEntry]) -> Option<&'a GivenValue>
     Some(&entry.value)
 }
 
-// The value that is given for a slot.
+// Returns the value given for a slot.
 fn given_at<'a>(schema: &Schema, given: &'a [GivenEntry], slot: SlotId) -> Option<&'a GivenValue>
     ensures { option_map (λ v. value_declaration v.now) result ≡
         given_at schema.now (map given_declaration given.now) slot }
@@ -51,7 +51,8 @@ fn given_at<'a>(schema: &Schema, given: &'a [GivenEntry], slot: SlotId) -> Optio
     given_for(schema.slot_name(slot)?, given)
 }
 
-// What a given value is in a slot of a kind, whether it fits or not. A label is given by its name.
+// Converts a given value to one of a slot's kind, without testing whether the slot can hold it. A label is given by its
+// name.
 #[tactic(auto, unfolding(crate::specs::Load::value_in))]
 fn value_in(
     alloc: Global,
@@ -77,7 +78,7 @@ fn value_in(
     }
 }
 
-// What a given value is in a slot.
+// Converts a given value to one of a slot.
 fn value_at(
     alloc: Global,
     schema: &Schema,
@@ -92,26 +93,27 @@ fn value_at(
     value_in(alloc, schema, schema.kind(slot), given)
 }
 
-// Sets a slot of a unit to a value that is given for it.
+// Sets a slot of a unit to the value given for it.
 #[tactic(auto, unfolding(crate::specs::Load::with_value))]
 fn set_value(
     alloc: Global,
     schema: &Schema,
-    world: &mut World,
+    board: &mut Board,
     unit: UnitId,
     slot: SlotId,
     given: &GivenValue,
 ) -> Result<(), UnitsFault>
-    requires { world.old.schema ≡ schema.now }
-    ensures gives { Gives OutOfMemory (λ _. world.new.world) result
-        (with_value schema.now unit world.old.world slot (value_declaration given.now)) }
-    ensures schema { OnOk result (world.new.schema ≡ world.old.schema) }
+    requires { board.old.schema ≡ schema.now }
+    ensures gives { Gives OutOfMemory (λ _. board.new.world) result
+        (with_value schema.now unit board.old.world slot (value_declaration given.now)) }
+    ensures schema { OnOk result (board.new.schema ≡ board.old.schema) }
+    ensures refused { OnOk result (board.new.refused ≡ board.old.refused) }
 {
     let value = value_at(alloc, schema, slot, given)?.ok_or(UnitsFault::here(UnitsFlaw::Kind))?;
-    if world.may_set(unit, slot, &value).is_err() {
+    if board.may_set(unit, slot, &value).is_err() {
         return Err(UnitsFault::here(UnitsFlaw::Kind));
     }
-    world.set(unit, slot, value)?;
+    board.set(unit, slot, value)?;
     Ok(())
 }
 
@@ -120,19 +122,20 @@ fn set_value(
 fn set_slot(
     alloc: Global,
     schema: &Schema,
-    world: &mut World,
+    board: &mut Board,
     unit: UnitId,
     slot: SlotId,
     given: &[GivenEntry],
 ) -> Result<(), UnitsFault>
-    requires { world.old.schema ≡ schema.now }
-    ensures gives { Gives OutOfMemory (λ _. world.new.world) result
-        (slot_after schema.now unit (map given_declaration given.now) world.old.world slot) }
-    ensures schema { OnOk result (world.new.schema ≡ world.old.schema) }
+    requires { board.old.schema ≡ schema.now }
+    ensures gives { Gives OutOfMemory (λ _. board.new.world) result
+        (slot_after schema.now unit (map given_declaration given.now) board.old.world slot) }
+    ensures schema { OnOk result (board.new.schema ≡ board.old.schema) }
+    ensures refused { OnOk result (board.new.refused ≡ board.old.refused) }
 {
     match given_at(schema, given, slot) {
         None => Ok(()),
-        Some(value) => set_value(alloc, schema, world, unit, slot, value),
+        Some(value) => set_value(alloc, schema, board, unit, slot, value),
     }
 }
 
@@ -140,40 +143,42 @@ fn set_slot(
 fn set_slots(
     alloc: Global,
     schema: &Schema,
-    world: &mut World,
+    board: &mut Board,
     unit: UnitId,
     slots: &[SlotId],
     given: &[GivenEntry],
 ) -> Result<(), UnitsFault>
-    requires { world.old.schema ≡ schema.now }
-    ensures gives { Gives OutOfMemory (λ _. world.new.world) result
-        (try_fold (slot_after schema.now unit (map given_declaration given.now)) world.old.world slots.now) }
-    ensures schema { OnOk result (world.new.schema ≡ world.old.schema) }
+    requires { board.old.schema ≡ schema.now }
+    ensures gives { Gives OutOfMemory (λ _. board.new.world) result
+        (try_fold (slot_after schema.now unit (map given_declaration given.now)) board.old.world slots.now) }
+    ensures schema { OnOk result (board.new.schema ≡ board.old.schema) }
+    ensures refused { OnOk result (board.new.refused ≡ board.old.refused) }
 {
     for slot in slots {
-        set_slot(alloc, schema, world, unit, *slot, given)?;
+        set_slot(alloc, schema, board, unit, *slot, given)?;
     }
     Ok(())
 }
 
-/// Sets what the entry of a new unit gives, in class order.
+/// Sets the slots of a new unit to the values that its entry gives, in class order.
 #[tactic(auto, unfolding(crate::specs::Load::with_values))]
 pub(crate) fn set_values(
     alloc: Global,
     schema: &Schema,
-    world: &mut World,
+    board: &mut Board,
     unit: UnitId,
     class: ClassId,
     given: &[GivenEntry],
 ) -> Result<(), UnitsFault>
     requires class { class < length schema.now.classes }
-    requires schema { world.old.schema ≡ schema.now }
-    ensures gives { Gives OutOfMemory (λ _. world.new.world) result
-        (with_values schema.now unit class (map given_declaration given.now) world.old.world) }
-    ensures schema { OnOk result (world.new.schema ≡ world.old.schema) }
+    requires schema { board.old.schema ≡ schema.now }
+    ensures gives { Gives OutOfMemory (λ _. board.new.world) result
+        (with_values schema.now unit class (map given_declaration given.now) board.old.world) }
+    ensures schema { OnOk result (board.new.schema ≡ board.old.schema) }
+    ensures refused { OnOk result (board.new.refused ≡ board.old.refused) }
 {
     if !are_slots(schema, class, given) {
         return Err(UnitsFault::here(UnitsFlaw::Unknown));
     }
-    set_slots(alloc, schema, world, unit, schema.slots(class), given)
+    set_slots(alloc, schema, board, unit, schema.slots(class), given)
 }

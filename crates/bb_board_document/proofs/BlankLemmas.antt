@@ -22,8 +22,8 @@ use Rattle.bb_units.specs.Layout.{layout_of, default_at, can_hold, defaults_of}
 use Rattle.bb_units.specs.Units.{value_of}
 use Rattle.bb_board.specs.declared.units_fault.UnitsFault.{UnitsFault}
 use Rattle.bb_board.specs.Load.{if_given, with_value, slot_after}
-use Rattle.bb_board_state.specs.State.{World}
-use Rattle.bb_board_state.specs.World.{after_set}
+use Rattle.bb_board.specs.State.{World}
+use Rattle.bb_board.specs.World.{after_set}
 use Rattle.bb_native.specs.Sight.{Sight}
 use Rattle.bb_board_document.specs.Values.{same_value, unless_same, value_data}
 use Rattle.bb_board_document.specs.Document.{changed_value}

@@ -27,10 +27,10 @@ use Rattle.bb_query.specs.PresentValues.{present_values}
 use Rattle.bb_board.specs.declared.units_fault.UnitsFault.{UnitsFault}
 use Rattle.bb_board.specs.UnitsFaults.{inside}
 use Rattle.bb_board.specs.Load.{member_after}
-use Rattle.bb_board_state.specs.State.{World}
-use Rattle.bb_board_state.specs.World.{class_at}
-use Rattle.bb_board_state.specs.Spaces.{may_enter, after_enter}
-use Rattle.bb_board_state.specs.Fits.{Fits}
+use Rattle.bb_board.specs.State.{World}
+use Rattle.bb_board.specs.World.{class_at}
+use Rattle.bb_board.specs.Spaces.{may_enter, after_enter}
+use Rattle.bb_board.specs.Fits.{Fits}
 use Rattle.bb_native.specs.Sight.{Sight}
 use Rattle.bb_board_document.specs.Renumbered.{renamed, with_new_keys}
 use Rattle.bb_board_document.specs.Document.{name_of}

@@ -9,7 +9,7 @@ use Rattle.std.proofs.lemmas.Cmp.{ranked}
 use Rattle.std.proofs.lemmas.List.{length-map, map-append}
 use Rattle.bb_space.proofs.Laws.{keys_rise}
 use Rattle.bb_units.specs.Units.{live_units}
-use Rattle.bb_board_state.specs.State.{World}
+use Rattle.bb_board.specs.State.{World}
 use Rattle.bb_board_document.specs.Renumbered.{renamed}
 use Rattle.bb_board_document.proofs.CountLemmas.{below, below_at}
 

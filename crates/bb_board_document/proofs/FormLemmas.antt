@@ -19,7 +19,7 @@ use Rattle.bb_schema.specs.Couples.{couples}
 use Rattle.bb_units.specs.Units.{live_units}
 use Rattle.bb_links.specs.Links.{pairs_by}
 use Rattle.bb_space.specs.Spaces.{spaces_of}
-use Rattle.bb_board_state.specs.World.{class_at}
+use Rattle.bb_board.specs.World.{class_at}
 use Rattle.bb_native.specs.Sight.{Sight}
 use Rattle.bb_board_document.specs.Values.{list_data}
 use Rattle.bb_board_document.specs.Document.{name_of, with_given, unit_data, link_data, member_data, units_data}

@@ -18,7 +18,7 @@ use Rattle.bb_links.specs.Layout.{singular_of, slot_ends}
 use Rattle.bb_links.specs.Couples.{Couple, Couples, with_pairs}
 use Rattle.bb_space.specs.Spaces.{Membership, Spaces}
 use Rattle.bb_space.proofs.Laws.{keys_rise}
-use Rattle.bb_board_state.specs.Fits.{Fits}
+use Rattle.bb_board.specs.Fits.{Fits}
 use Rattle.bb_native.specs.Sight.{Sight}
 use Rattle.bb_board_document.specs.Renumbered.{renamed, with_new_keys, with_new_pairs, renumbered, HasNoGap, with_same_numbers}
 use Rattle.bb_board_document.proofs.EntryLemmas.{renamed_here}

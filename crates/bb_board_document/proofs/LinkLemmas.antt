@@ -26,11 +26,11 @@ use Rattle.bb_links.specs.Links.{pairs_by}
 use Rattle.bb_space.specs.Spaces.{no_spaces}
 use Rattle.bb_board.specs.UnitsFaults.{inside}
 use Rattle.bb_board.specs.Load.{link_after}
-use Rattle.bb_board_state.specs.State.{World}
-use Rattle.bb_board_state.specs.World.{class_at}
-use Rattle.bb_board_state.specs.May.{class_has, has_link, leads_to, may_link}
-use Rattle.bb_board_state.specs.Links.{linked_at, after_link}
-use Rattle.bb_board_state.specs.Fits.{Fits}
+use Rattle.bb_board.specs.State.{World}
+use Rattle.bb_board.specs.World.{class_at}
+use Rattle.bb_board.specs.May.{class_has, has_link, leads_to, may_link}
+use Rattle.bb_board.specs.Links.{linked_at, after_link}
+use Rattle.bb_board.specs.Fits.{Fits}
 use Rattle.bb_native.specs.Sight.{Sight}
 use Rattle.bb_board_document.specs.Renumbered.{renamed, with_new_pairs}
 use Rattle.bb_board_document.specs.Document.{name_of}

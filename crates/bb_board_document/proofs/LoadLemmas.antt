@@ -21,9 +21,9 @@ use Rattle.bb_links.specs.Couples.{Couple}
 use Rattle.bb_space.specs.Spaces.{Membership, Spaces, values_in}
 use Rattle.bb_board.specs.UnitsFaults.{inside}
 use Rattle.bb_board.specs.Load.{Progress, no_progress, entry_after, link_after, member_after, load}
-use Rattle.bb_board_state.specs.State.{World}
-use Rattle.bb_board_state.specs.World.{after_take}
-use Rattle.bb_board_state.specs.Fits.{Fits}
+use Rattle.bb_board.specs.State.{World}
+use Rattle.bb_board.specs.World.{after_take}
+use Rattle.bb_board.specs.Fits.{Fits}
 use Rattle.bb_native.specs.Sight.{Sight}
 use Rattle.bb_board_document.specs.Renumbered.{renamed, with_new_keys, renumbered}
 use Rattle.bb_board_document.specs.Document.{name_of, units_data}

@@ -17,7 +17,7 @@ use Rattle.bb_pattern.specs.Values.{dim_value_of}
 use Rattle.bb_space.specs.Spaces.{Membership, Spaces, membership, is_member, values_in, spaces_of, after_enter as with_member}
 use Rattle.bb_space.proofs.Laws.{any_filter}
 use Rattle.bb_query.specs.PresentValues.{value_on, values_on, present_values}
-use Rattle.bb_board_state.specs.State.{World}
+use Rattle.bb_board.specs.State.{World}
 use Rattle.bb_board_document.specs.Renumbered.{renamed, with_new_keys}
 use Rattle.bb_board_document.proofs.PlaceLemmas.{each_live, Lives, lives, same_number}
 

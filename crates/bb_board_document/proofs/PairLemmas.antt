@@ -24,9 +24,9 @@ use Rattle.bb_links.specs.Links.{pairs_by}
 use Rattle.bb_links.specs.Fits.{FitsCouple}
 use Rattle.bb_links.specs.proving.Partners.{opposite}
 use Rattle.bb_board.proofs.Laws.{inverse_end}
-use Rattle.bb_board_state.specs.World.{class_at}
-use Rattle.bb_board_state.specs.May.{class_has}
-use Rattle.bb_board_state.specs.Fits.{is_of_owner, Fits}
+use Rattle.bb_board.specs.World.{class_at}
+use Rattle.bb_board.specs.May.{class_has}
+use Rattle.bb_board.specs.Fits.{is_of_owner, Fits}
 use Rattle.bb_native.specs.Sight.{Sight}
 use Rattle.bb_board_document.proofs.NameLemmas.{all_at, slot_back}
 use Rattle.bb_board_document.proofs.PlaceLemmas.{Lives, lives}

@@ -13,7 +13,7 @@ use Rattle.std.proofs.lemmas.List.{length-map, map-append}
 use Rattle.bb_basis.proofs.EntryLemmas.{entries_are}
 use Rattle.bb_units.specs.declared.unit.Unit.{Unit as OneUnit}
 use Rattle.bb_units.specs.Units.{live_units, is_live}
-use Rattle.bb_board_state.specs.State.{World}
+use Rattle.bb_board.specs.State.{World}
 use Rattle.bb_board_document.specs.Renumbered.{renamed}
 use Rattle.bb_board_document.proofs.EntryLemmas.{get_here, renamed_here}
 

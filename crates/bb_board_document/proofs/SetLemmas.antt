@@ -20,12 +20,12 @@ use Rattle.bb_units.specs.Units.{Units, is_live, has_slot, takes, with_value_of,
 use Rattle.bb_links.specs.Couples.{no_links}
 use Rattle.bb_schema.specs.declared.space.Space.{Space}
 use Rattle.bb_space.specs.Spaces.{Membership, Spaces, no_spaces, spaces_of, after_moves}
-use Rattle.bb_board_state.specs.declared.reason.Reason.{Reason}
-use Rattle.bb_board_state.specs.declared.reason.Reason.TheVariants.{Deleted, Slot as NoSlot, Kind as NoKind}
-use Rattle.bb_board_state.specs.State.{World}
-use Rattle.bb_board_state.specs.World.{after_set}
-use Rattle.bb_board_state.specs.Told.{told_again}
-use Rattle.bb_board_state.specs.May.{may_set}
+use Rattle.bb_board.specs.declared.reason.Reason.{Reason}
+use Rattle.bb_board.specs.declared.reason.Reason.TheVariants.{Deleted, Slot as NoSlot, Kind as NoKind}
+use Rattle.bb_board.specs.State.{World}
+use Rattle.bb_board.specs.World.{after_set}
+use Rattle.bb_board.specs.Told.{told_again}
+use Rattle.bb_board.specs.May.{may_set}
 
 abbrev pub Held : Type 0
 Held = List (ℕ × Value)

@@ -31,9 +31,9 @@ use Rattle.bb_links.specs.Couples.{no_links}
 use Rattle.bb_space.specs.Spaces.{no_spaces}
 use Rattle.bb_board.specs.UnitsFaults.{inside}
 use Rattle.bb_board.specs.Load.{Progress, are_slots, slot_after, with_unit, with_values, entry_after}
-use Rattle.bb_board_state.specs.Fits.{Fits}
-use Rattle.bb_board_state.specs.State.{World}
-use Rattle.bb_board_state.specs.World.{class_at, after_create}
+use Rattle.bb_board.specs.Fits.{Fits}
+use Rattle.bb_board.specs.State.{World}
+use Rattle.bb_board.specs.World.{class_at, after_create}
 use Rattle.bb_native.specs.Sight.{Sight}
 use Rattle.bb_board_document.specs.Renumbered.{renamed}
 use Rattle.bb_board_document.proofs.NameLemmas.{eq_itself, class_back}

@@ -11,7 +11,7 @@ use Rattle.bb_schema.specs.Couples.{couples}
 use Rattle.bb_units.specs.Units.{live_units, value_of}
 use Rattle.bb_links.specs.Links.{pairs_by}
 use Rattle.bb_space.specs.Spaces.{spaces_of}
-use Rattle.bb_board_state.specs.World.{class_at}
+use Rattle.bb_board.specs.World.{class_at}
 use Rattle.bb_native.specs.Sight.{Sight}
 use Rattle.bb_board_document.specs.Renumbered.{renamed}
 use Rattle.bb_board_document.specs.Values.{unless_same, list_data, name_data, value_data}

@@ -2,8 +2,8 @@
 use Rattle.std.specs.Prelude.{◌≡◌, ℕ, List, Ok}
 use Rattle.bb_schema.specs.Schema.{Schema}
 use Rattle.bb_board.specs.Load.{load}
-use Rattle.bb_board_state.specs.State.{World}
-use Rattle.bb_board_state.specs.World.{after_take}
+use Rattle.bb_board.specs.State.{World}
+use Rattle.bb_board.specs.World.{after_take}
 
 -- the text is a document of initial units without a fault, and the blackboard that loads it is w after its notes are
 -- taken

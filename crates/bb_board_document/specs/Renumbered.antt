@@ -6,7 +6,7 @@ use Rattle.std.specs.FinMap as fin
 use Rattle.bb_units.specs.Units.{live_units}
 use Rattle.bb_links.specs.Layout.{slot_ends}
 use Rattle.bb_links.specs.Couples.{Couple, with_pairs}
-use Rattle.bb_board_state.specs.State.{World}
+use Rattle.bb_board.specs.State.{World}
 use Rattle.bb_native.specs.Sight.{Sight}
 
 -- the new number of a unit: one more than the count of live units with lower numbers

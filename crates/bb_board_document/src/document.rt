@@ -4,7 +4,7 @@ ghost use Rattle.std.specs.Prelude.{◌≡◌, IfOk, Some, map, string_bytes};
 ghost use Rattle.serde_json.specs.Read.{read};
 ghost use Rattle.serde_json.specs.View.{view};
 ghost use Rattle.bb_units.specs.Units.{live_units};
-ghost use Rattle.bb_board_state.specs.World.{class_at};
+ghost use Rattle.bb_board.specs.World.{class_at};
 ghost use Rattle.bb_board_document.specs.Loading.{LoadsAs};
 ghost use Rattle.bb_board_document.specs.Renumbered.{renumbered, HasNoGap, with_same_numbers};
 ghost use Rattle.bb_board_document.specs.Values.{list_data};

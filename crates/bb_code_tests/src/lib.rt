@@ -1,7 +1,14 @@
-//! Tests of codes and their verification: bytes with enough memory, limits, and loops compared with a plain program.
+//! Tests of codes, of their verification, and of the crates that judge texts and emit their code: every public call that
+//! can need memory, with enough of it; limits; and loops compared with a plain program.
 #![tactic(auto)]
 
 #[cfg(test)]
+mod buffer;
+#[cfg(test)]
 mod code;
+#[cfg(test)]
+mod emit;
+#[cfg(test)]
+mod judge;
 #[cfg(test)]
 mod loops;

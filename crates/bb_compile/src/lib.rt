@@ -9,7 +9,7 @@
 //!   bb_theorem_judged.
 //! - Family: bb_compile_scope has the names, kinds and faults of statements; bb_compile_buffer has the code emitted so
 //!   far.
-//! - Cases: `statements`, `limits_of_parts`, `refused_sources`, `model-compiles`; tests in bb_compile_tests and
+//! - Cases: `statements`, `limits_of_parts`, `refused_sources`, `model-compiles`; tests in bb_code_tests and
 //!   bb_rules_tests.
 #![tactic(auto)]
 

@@ -2,7 +2,7 @@
 use Rattle.std.proofs.Common.{◌≡◌, true, List, [], ◌∷◌, ◌++◌, refl, ◌∙◌}
 use Rattle.std.specs.List.{list_all}
 use Rattle.std.proofs.lemmas.List.Folds.{list_all-append}
-use Rattle.bb_board.specs.Said.{Said}
+use Rattle.bb_board.specs.declared.note.Said.{Said}
 use Rattle.bb_board.specs.Board.{Board}
 use Rattle.bb_board.specs.Fits.{is_said_of}
 

@@ -43,8 +43,8 @@ pub use Rattle.bb_board.specs.Deletion
 pub use Rattle.bb_board.specs.Spaces
 pub use Rattle.bb_board.specs.May
 pub use Rattle.bb_board.specs.Fits
-pub use Rattle.bb_board.specs.Said
-pub use Rattle.bb_board.specs.Reason
+pub use Rattle.bb_board.specs.declared.note.Said
+pub use Rattle.bb_board.specs.declared.reason.Reason
 pub use Rattle.bb_board.specs.State
 pub use Rattle.bb_board.specs.Named
 -- of bb_units: the units, what their slots can hold, and why a unit cannot be created

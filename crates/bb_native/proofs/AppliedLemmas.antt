@@ -13,8 +13,8 @@ use Rattle.bb_schema_classes.specs.declared.value.TheConstants.{TEXT_LIMIT}
 use Rattle.bb_schema.specs.declared.space.Space.{Space}
 use Rattle.bb_schema.specs.Schema.{class_named, slot_named, space_named}
 use Rattle.bb_units.specs.Units.{is_live, is_full, next_number}
-use Rattle.bb_board.specs.Reason.{Reason}
-use Rattle.bb_board.specs.Said.TheVariants as saids
+use Rattle.bb_board.specs.declared.reason.Reason.{Reason}
+use Rattle.bb_board.specs.declared.note.Said.TheVariants as saids
 use Rattle.bb_board.specs.Board.{Board, with_world}
 use Rattle.bb_board.specs.World.{class_at, after_create, after_set, after_say}
 use Rattle.bb_board.specs.Links.{after_link, after_unlink}

@@ -26,11 +26,11 @@ use Rattle.bb_units.proofs.Laws.{created_fit, updated_fit}
 use Rattle.bb_links.specs.Couples.{Couple, Couples, with_couple, linked, unlinked}
 use Rattle.bb_links.specs.Fits as links
 use Rattle.bb_links.proofs.Laws.{set_fits, linked_fits, unlinked_fits}
-use Rattle.bb_board.specs.Reason.{Reason}
-use Rattle.bb_board.specs.Reason.TheVariants as reasons
-use Rattle.bb_board.specs.Said.{Said}
-use Rattle.bb_board.specs.Said.TheVariants as saids
-use Rattle.bb_board.specs.Note.TheVariants as notes
+use Rattle.bb_board.specs.declared.reason.Reason.{Reason}
+use Rattle.bb_board.specs.declared.reason.Reason.TheVariants as reasons
+use Rattle.bb_board.specs.declared.note.Said.{Said}
+use Rattle.bb_board.specs.declared.note.Said.TheVariants as saids
+use Rattle.bb_board.specs.declared.note.Note.TheVariants as notes
 use Rattle.bb_board.specs.State.{World}
 use Rattle.bb_board.specs.Board.{Board, with_world}
 use Rattle.bb_board.specs.World.{after_create, after_set, after_say}

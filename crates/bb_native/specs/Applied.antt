@@ -6,7 +6,7 @@ use Rattle.bb_schema_classes.specs.declared.value.Value.TheVariants as values
 use Rattle.bb_schema_classes.specs.declared.value.TheConstants.{TEXT_LIMIT}
 use Rattle.bb_schema.specs.Schema.{class_named, slot_named, space_named}
 use Rattle.bb_units.specs.Units.{is_live, next_number}
-use Rattle.bb_board.specs.Said.TheVariants as saids
+use Rattle.bb_board.specs.declared.note.Said.TheVariants as saids
 use Rattle.bb_board.specs.World.{class_at, after_create, after_set, after_say}
 use Rattle.bb_board.specs.Links.{after_link, after_unlink}
 use Rattle.bb_board.specs.Deletion.{after_delete}

@@ -2,8 +2,8 @@
 use Rattle.std.specs.Prelude.{ℕ}
 use Rattle.bb_units.specs.declared.fault.CreateFault.{CreateFault}
 use Rattle.bb_units.specs.declared.fault.CreateFault.TheVariants as creates
-use Rattle.bb_board.specs.Reason.{Reason}
-use Rattle.bb_board.specs.Reason.TheVariants as reasons
+use Rattle.bb_board.specs.declared.reason.Reason.{Reason}
+use Rattle.bb_board.specs.declared.reason.Reason.TheVariants as reasons
 use Rattle.bb_native.specs.declared.refusal.Refusal.{Refusal}
 use Rattle.bb_native.specs.declared.refusal.Refusal.TheVariants.{Deleted, Slot, Kind, LinkClass, Space, Class}
 use Rattle.bb_native.specs.declared.denial.Denial.{Denial}

@@ -4,7 +4,7 @@
 ghost use Rattle.std.specs.Prelude.{◌≡◌, ◌<◌, Ok, IfErr, IfOk, IsTrue, length};
 ghost use Rattle.bb_basis.specs.Results.{Gives};
 ghost use Rattle.bb_units.specs.Units.{is_live};
-ghost use Rattle.bb_board_state.specs.May.{may_link};
+ghost use Rattle.bb_board.specs.May.{may_link};
 ghost use Rattle.bb_native.specs.Applied as def;
 ghost use Rattle.bb_native.specs.Applied.{applied, Leaves};
 ghost use Rattle.bb_native.specs.declared.denial.Denial.TheVariants.{Memory as OutOfMemory};

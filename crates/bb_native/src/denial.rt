@@ -5,7 +5,7 @@ ghost use Rattle.bb_native.specs.declared.denial.Denial.TheVariants.{Memory as O
 ghost use Rattle.bb_native.specs.Refusals.{denial_of, denial_of_create};
 
 use crate::refusal::Refusal;
-use bb_board_state::Reason;
+use bb_board::Reason;
 use bb_units::CreateFault;
 use std::alloc::{AllocError, AllocFailed};
 

@@ -18,7 +18,7 @@ mod view;
 
 pub use applying::apply;
 pub use ask::Ask;
-pub use bb_board_state::{DimValue, Query};
+pub use bb_board::{DimValue, Query};
 pub use bb_pattern::{Node, OperandKind, Pattern, Relation};
 pub use closing::Closing;
 pub use denial::Denial;

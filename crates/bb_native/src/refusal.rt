@@ -3,7 +3,7 @@
 ghost use Rattle.std.specs.Prelude.{◌≡◌};
 ghost use Rattle.bb_native.specs.Refusals.{refusal_number, refusal_of};
 
-use bb_board_state::Reason;
+use bb_board::Reason;
 
 /// Why an ask is refused. If several reasons apply, it is the first in this order.
 #[derive(Clone, Copy, Debug, PartialEq, Eq)]

@@ -6,15 +6,14 @@ ghost use Rattle.bb_pattern.specs.Values.{kind_of_operand};
 ghost use Rattle.bb_units.specs.Units.{live_units, is_live, class_of, value_of, has_slot};
 ghost use Rattle.bb_units.specs.declared.units.TheConstants.{UNIT_LIMIT};
 ghost use Rattle.bb_links.specs.Links.{ends, pairs_by};
-ghost use Rattle.bb_board_state.specs.Members.{spaces_of};
-ghost use Rattle.bb_board_state.specs.Answer.{answer};
-ghost use Rattle.bb_board_state.specs.Fits.{Fits};
-ghost use Rattle.bb_board_state.specs.May.{was};
+ghost use Rattle.bb_board.specs.Members.{spaces_of};
+ghost use Rattle.bb_board.specs.Answer.{answer};
+ghost use Rattle.bb_board.specs.Fits.{Fits};
+ghost use Rattle.bb_board.specs.May.{was};
 ghost use Rattle.bb_native.specs.Sight.{sight_of};
 
 use bb_basis::Memory;
-use bb_board::Board;
-use bb_board_state::{DimValue, Query};
+use bb_board::{Board, DimValue, Query};
 use bb_schema::{ClassId, Schema, SlotId, SpaceId, UnitId, Value};
 use std::marker::Model;
 

@@ -1,4 +1,4 @@
-//! The values that spaces are given when a slot of a unit is set. The board's state (bb_board_state) sets it.
+//! The values that spaces are given when a slot of a unit is set. The board's state (bb_board) sets it.
 
 ghost use Rattle.std.specs.Prelude.{◌≡◌, ◌<◌, ◌^◌, IfOk, length, position, slice_set};
 ghost use Rattle.std.specs.Str.{bytes_eq};

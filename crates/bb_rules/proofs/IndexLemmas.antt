@@ -5,10 +5,10 @@ use Rattle.std.proofs.lemmas.Bool.{and_parts, or_right, and_from}
 use Rattle.bb_basis.proofs.ListLemmas.{list_any-last}
 use Rattle.bb_basis.proofs.BoolLemmas.{or_false, same_truth}
 use Rattle.bb_schema.specs.Schema.{Schema, descends}
-use Rattle.bb_board.specs.Change.{Change}
-use Rattle.bb_board.specs.ChangeKind.{ChangeKind}
-use Rattle.bb_board.specs.Event.{Event}
-use Rattle.bb_board.specs.Event.TheVariants as events
+use Rattle.bb_board.specs.declared.event.Change.{Change}
+use Rattle.bb_board.specs.declared.event.ChangeKind.{ChangeKind}
+use Rattle.bb_board.specs.declared.event.Event.{Event}
+use Rattle.bb_board.specs.declared.event.Event.TheVariants as events
 use Rattle.bb_board.specs.Events.{kind_of}
 use Rattle.bb_rules.specs.declared.clause.Clause.{Clause}
 use Rattle.bb_rules.specs.declared.clause.Clause.TheVariants as clauses

@@ -4,8 +4,8 @@ use Rattle.std.specs.List.{list_any}
 use Rattle.std.specs.Option.{option_map_or}
 use Rattle.std.specs.Ordering.{nat_cmp}
 use Rattle.std.specs.BTreeMap.{BTreeMap, get}
-use Rattle.bb_board.specs.ChangeKind.{ChangeKind}
-use Rattle.bb_board.specs.ChangeKind.TheVariants.{Create, Delete, Update, Link, Unlink, Enter, Leave}
+use Rattle.bb_board.specs.declared.event.ChangeKind.{ChangeKind}
+use Rattle.bb_board.specs.declared.event.ChangeKind.TheVariants.{Create, Delete, Update, Link, Unlink, Enter, Leave}
 use Rattle.bb_rules.specs.declared.kind_index.KindIndex.{KindIndex}
 
 -- the number is in the list

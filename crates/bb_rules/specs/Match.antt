@@ -2,10 +2,10 @@
 use Rattle.std.specs.Prelude.{Bool, true, false, ◌&&◌, ◌==◌, List}
 use Rattle.std.specs.List.{list_any}
 use Rattle.bb_schema.specs.Schema.{Schema, descends}
-use Rattle.bb_board.specs.ChangeKind.{ChangeKind}
-use Rattle.bb_board.specs.ChangeKind.TheVariants.{Create, Delete, Update, Link, Unlink, Enter, Leave}
-use Rattle.bb_board.specs.Event.{Event}
-use Rattle.bb_board.specs.Event.TheVariants as events
+use Rattle.bb_board.specs.declared.event.ChangeKind.{ChangeKind}
+use Rattle.bb_board.specs.declared.event.ChangeKind.TheVariants.{Create, Delete, Update, Link, Unlink, Enter, Leave}
+use Rattle.bb_board.specs.declared.event.Event.{Event}
+use Rattle.bb_board.specs.declared.event.Event.TheVariants as events
 use Rattle.bb_board.specs.Events.{kind_of}
 use Rattle.bb_rules.specs.declared.clause.Clause.{Clause}
 use Rattle.bb_rules.specs.declared.clause.Clause.TheVariants as clauses

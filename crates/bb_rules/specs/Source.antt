@@ -2,8 +2,8 @@
 use Rattle.std.specs.Prelude.{ℕ, Bool, false, ◌&&◌, ◌==◌, List, Option, Some, None, option_map, is_some}
 use Rattle.std.specs.Prelude.{Result, Ok, Err, if◌then◌else◌}
 use Rattle.bb_basis.specs.Results.{◌>>=◌, ok_or, try_map_at}
-use Rattle.bb_board.specs.ChangeKind.{ChangeKind}
-use Rattle.bb_board.specs.ChangeKind.TheVariants as kinds
+use Rattle.bb_board.specs.declared.event.ChangeKind.{ChangeKind}
+use Rattle.bb_board.specs.declared.event.ChangeKind.TheVariants as kinds
 use Rattle.bb_bundle.specs.ChangeText.{ChangeText}
 use Rattle.bb_bundle.specs.ChangeText.TheVariants as changes
 use Rattle.bb_bundle.specs.ClauseText.{ClauseText}

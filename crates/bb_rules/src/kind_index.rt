@@ -3,7 +3,7 @@
 
 ghost use Rattle.std.specs.Prelude.{◌≡◌, ℕ, [], OnOk};
 ghost use Rattle.std.specs.Option.{option_map_or};
-ghost use Rattle.bb_board.specs.ChangeKind.{ChangeKind as Kind};
+ghost use Rattle.bb_board.specs.declared.event.ChangeKind.{ChangeKind as Kind};
 ghost use Rattle.bb_rules.specs.Match.{is_same_kind};
 ghost use Rattle.bb_rules.specs.KindIndex.{ids_for, put_if};
 

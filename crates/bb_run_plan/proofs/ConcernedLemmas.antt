@@ -6,7 +6,7 @@ use Rattle.std.proofs.lemmas.List.Folds.{list_any-append}
 use Rattle.bb_basis.proofs.ListLemmas.{list_any-last}
 use Rattle.bb_basis.proofs.BoolLemmas.{or_true}
 use Rattle.bb_basis.proofs.NumberLemmas.{differs}
-use Rattle.bb_board.specs.Event.{Event}
+use Rattle.bb_board.specs.declared.event.Event.{Event}
 use Rattle.bb_rules.specs.declared.clause.Clause.{Clause}
 use Rattle.bb_rules.specs.Parts.{Source}
 use Rattle.bb_rules.specs.KindIndex.{has, put, put_if}

@@ -12,8 +12,8 @@ use Rattle.bb_agenda.specs.declared.focusing.setting.RatedSource.{RatedSource}
 use Rattle.bb_agenda.specs.focusing.Foci.{Foci, Setting}
 use Rattle.bb_agenda.specs.Agenda.{Agenda, no_activations}
 use Rattle.bb_board.specs.Board.{Board as Blackboard}
-use Rattle.bb_board.specs.Note.{Note as BoardNote}
-use Rattle.bb_board.specs.Note.TheVariants.{Event as happened, Said as said}
+use Rattle.bb_board.specs.declared.note.Note.{Note as BoardNote}
+use Rattle.bb_board.specs.declared.note.Note.TheVariants.{Event as happened, Said as said}
 use Rattle.bb_board.specs.Events.{unit_of}
 use Rattle.bb_board.specs.Units.{Units, class_of, value_of}
 use Rattle.bb_rules.specs.Parts.{Source}

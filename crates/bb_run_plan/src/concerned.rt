@@ -2,7 +2,7 @@
 
 ghost use Rattle.std.specs.Prelude.{◌≡◌, ◌≤◌, [], IfOk, OnOk, length};
 ghost use Rattle.std.specs.Option.{option_map_or};
-ghost use Rattle.bb_board.specs.Event.{Event as Happened};
+ghost use Rattle.bb_board.specs.declared.event.Event.{Event as Happened};
 ghost use Rattle.bb_rules.specs.KindIndex.{put, put_if};
 ghost use Rattle.bb_run_plan.specs.Concerned.{any_of_kind, is_concerned, is_of_kind, reaction_of_kind};
 ghost use Rattle.bb_run_plan.specs.declared.plan.TheConstants.{SOURCE_LIMIT};

@@ -58,7 +58,7 @@ use Rattle.bb_theorem_meaning.proofs.MeansLemmas.{IsKind, OneOpOn, Means, means_
 use Rattle.bb_theorem_meaning.proofs.NameLemmas.{AreHeld, AreTaken, value_named, name_taken}
 use Rattle.bb_theorem_meaning.proofs.OpLemmas.{Pushed, Like, push_leaves}
 use Rattle.bb_theorem_meaning.proofs.SlotLemmas.{slot_same, value_among}
-use Rattle.bb_board_state.proofs.Laws.{class_there}
+use Rattle.bb_board.proofs.Laws.{class_there}
 
 -- ---- names
 

@@ -16,7 +16,7 @@ use Rattle.bb_compile_scope.specs.Kinds.{class_of}
 use Rattle.bb_compile_scope.specs.LocalKinds.{is_free, kind_at}
 use Rattle.bb_compile_scope.specs.Scope.{name_of, local_of}
 use Rattle.bb_theorem_accepted.specs.Buffer.{Buffer}
-use Rattle.bb_board_state.proofs.Laws.{class_there}
+use Rattle.bb_board.proofs.Laws.{class_there}
 use Rattle.bb_machine.specs.Board.{Board}
 use Rattle.bb_machine.specs.Fits.{Fits}
 use Rattle.bb_machine.specs.State.{World}

@@ -23,7 +23,7 @@ use Rattle.bb_machine.specs.Reason.TheVariants.{Deleted, LinkClass, Space}
 use Rattle.bb_machine.specs.Reason.TheVariants as whys
 use Rattle.bb_machine.specs.Said.{Said}
 use Rattle.bb_machine.specs.State.{World}
-use Rattle.bb_board_state.proofs.Laws.{class_there}
+use Rattle.bb_board.proofs.Laws.{class_there}
 use Rattle.bb_machine.specs.declared.outcome.Answer.TheVariants.{Rated}
 use Rattle.bb_machine.specs.Changing.{State, halt_of, held_in, value_due, set_slot, after_change, relink, enter, right_space, leave, delete, said_due}
 use Rattle.bb_machine.specs.declared.halt.Halt.{Halt}

@@ -24,7 +24,7 @@ use Rattle.bb_machine.specs.Board.{Board}
 use Rattle.bb_machine.specs.May.{has_link}
 use Rattle.bb_machine.specs.Units as units
 use Rattle.bb_machine.specs.World.{class_at}
-use Rattle.bb_board_state.proofs.Laws.{class_there}
+use Rattle.bb_board.proofs.Laws.{class_there}
 use Rattle.bb_machine.specs.Changing.{State}
 use Rattle.bb_machine.specs.declared.halt.Halt.{Halt}
 use Rattle.bb_machine.specs.Machine.{Machine, with_stack, after_found, pop, push, room}

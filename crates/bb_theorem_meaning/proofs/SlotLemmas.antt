@@ -18,7 +18,7 @@ use Rattle.bb_units.specs.Layout.{Layout, layout_of, default_at}
 use Rattle.bb_units.specs.Layout as layouts
 use Rattle.bb_units.specs.Units.{value_of, has_slot, is_live}
 use Rattle.bb_units.proofs.Laws.{has_its_slots}
-use Rattle.bb_board_state.proofs.Laws.{class_there}
+use Rattle.bb_board.proofs.Laws.{class_there}
 use Rattle.bb_machine.specs.State.{World}
 use Rattle.bb_machine.specs.World.{class_at}
 use Rattle.bb_machine.specs.May.{class_has, has_link}

@@ -12,11 +12,11 @@ pub use Rattle.bb_board.specs.World
 pub use Rattle.bb_board.specs.Events
 pub use Rattle.bb_board.specs.Load
 pub use Rattle.bb_board.specs.UnitsFaults
-pub use Rattle.bb_board.specs.Change
-pub use Rattle.bb_board.specs.ChangeKind
-pub use Rattle.bb_board.specs.Event
-pub use Rattle.bb_board.specs.Note as BoardNote
-pub use Rattle.bb_board.specs.Said
+pub use Rattle.bb_board.specs.declared.event.Change
+pub use Rattle.bb_board.specs.declared.event.ChangeKind
+pub use Rattle.bb_board.specs.declared.event.Event
+pub use Rattle.bb_board.specs.declared.note.Note as BoardNote
+pub use Rattle.bb_board.specs.declared.note.Said
 pub use Rattle.bb_board.specs.Outlives
 -- of bb_native: what a native means, sees and asks, how asks are applied, and what a roster of natives means
 pub use Rattle.bb_native.specs.Native

@@ -7,14 +7,14 @@ use Rattle.serde_json.specs.Written.{compact_text}
 use Rattle.bb_schema.specs.Schema.{Schema, name_of_class, name_of_label, name_of_slot, name_of_space}
 use Rattle.bb_schema_classes.specs.declared.value.Value.{Value}
 use Rattle.bb_schema_classes.specs.declared.value.Value.TheVariants as values
-use Rattle.bb_board.specs.Change.{Change}
-use Rattle.bb_board.specs.Change.TheVariants.{Create, Delete, Update, Link, Unlink, Enter, Leave}
-use Rattle.bb_board.specs.Event.{Event}
-use Rattle.bb_board.specs.Event.TheVariants as events
-use Rattle.bb_board.specs.Note.{Note as BoardNote}
-use Rattle.bb_board.specs.Note.TheVariants.{Event as happened, Said as said}
-use Rattle.bb_board.specs.Said.{Said}
-use Rattle.bb_board.specs.Said.TheVariants as saids
+use Rattle.bb_board.specs.declared.event.Change.{Change}
+use Rattle.bb_board.specs.declared.event.Change.TheVariants.{Create, Delete, Update, Link, Unlink, Enter, Leave}
+use Rattle.bb_board.specs.declared.event.Event.{Event}
+use Rattle.bb_board.specs.declared.event.Event.TheVariants as events
+use Rattle.bb_board.specs.declared.note.Note.{Note as BoardNote}
+use Rattle.bb_board.specs.declared.note.Note.TheVariants.{Event as happened, Said as said}
+use Rattle.bb_board.specs.declared.note.Said.{Said}
+use Rattle.bb_board.specs.declared.note.Said.TheVariants as saids
 use Rattle.bb_agenda.specs.declared.focusing.activation.Activation.{Activation}
 use Rattle.bb_machine.specs.Reasons.{reason_number}
 use Rattle.bb_native.specs.declared.closing.Closing.{Closing}

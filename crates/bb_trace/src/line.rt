@@ -1,7 +1,7 @@
 //! The lines of a trace. The page (page.rt) adds one for each note. Cases of executions (bb_cases) use the same lines.
 
 ghost use Rattle.std.specs.Prelude.{◌≡◌, ◌++◌, ◌∷◌, [], OnOk, string_bytes};
-ghost use Rattle.bb_board.specs.Note.TheVariants.{Said as says};
+ghost use Rattle.bb_board.specs.declared.note.Note.TheVariants.{Said as says};
 ghost use Rattle.bb_native.specs.Refusals.{refusal_number};
 ghost use Rattle.bb_trace.specs.End.{Due};
 ghost use Rattle.bb_trace.specs.TraceText.{board_note_text, change_text, choice_text, closed_text, decline_text, end_text, ended_text};

@@ -1,4 +1,4 @@
--- Units under their names, as the code keeps them.
+-- Units by name, as the code keeps them.
 use Rattle.std.specs.Prelude.{ℕ, List, map, string_bytes, String}
 
 -- each name as its bytes

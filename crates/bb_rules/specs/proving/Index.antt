@@ -1,7 +1,7 @@
 -- How the code finds the clauses that name an event. No public contract cites it.
 use Rattle.std.specs.Prelude.{◌≡◌, ◌==◌, ◌&&◌, ℕ, Bool, true, false, List}
 use Rattle.std.specs.List.{list_any}
-use Rattle.bb_board.specs.ChangeKind.{ChangeKind}
+use Rattle.bb_board.specs.declared.event.ChangeKind.{ChangeKind}
 use Rattle.bb_rules.specs.declared.clause.Clause.{Clause}
 use Rattle.bb_rules.specs.declared.clause.Clause.TheVariants as clauses
 use Rattle.bb_rules.specs.declared.kind_index.KindIndex.{KindIndex}

@@ -1,7 +1,7 @@
 -- How a plan finds the sources that an event concerns. No public clause cites it.
 use Rattle.std.specs.Prelude.{◌≡◌, ℕ, List}
-use Rattle.bb_board.specs.Event.{Event}
-use Rattle.bb_board.specs.Event.TheVariants as events
+use Rattle.bb_board.specs.declared.event.Event.{Event}
+use Rattle.bb_board.specs.declared.event.Event.TheVariants as events
 use Rattle.bb_board.specs.Events.{kind_of}
 use Rattle.bb_rules.specs.KindIndex.{ids_for}
 use Rattle.bb_rules.specs.Parts.{Source}

@@ -17,8 +17,8 @@ use Rattle.bb_board.specs.Fits.{Fits}
 use Rattle.bb_board.specs.May.{has_link, leads_to, may_link}
 use Rattle.bb_board.specs.World.{class_at}
 use Rattle.bb_board.specs.Links.{linked_at, unlinked_at}
-use Rattle.bb_board.specs.Reason.{Reason}
-use Rattle.bb_board.specs.Reason.TheVariants as reasons
+use Rattle.bb_board.specs.declared.reason.Reason.{Reason}
+use Rattle.bb_board.specs.declared.reason.Reason.TheVariants as reasons
 use Rattle.bb_board.specs.State.{World}
 use Rattle.bb_board.proofs.Laws.{may_link_facts, link_keeps, unlink_keeps}
 use Rattle.bb_code.specs.declared.op.LinkChange.{LinkChange}

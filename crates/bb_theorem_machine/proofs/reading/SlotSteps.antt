@@ -47,7 +47,7 @@ use Rattle.bb_theorem_machine.proofs.reading.PartnerLemmas.{links_lead}
 use Rattle.bb_theorem_machine.proofs.reading.FindLemmas.{query_right, operands_given, answers_are}
 use Rattle.bb_theorem_machine.proofs.EdgeLemmas.{leads_by, leads_either}
 use Rattle.bb_units.specs.declared.units.TheConstants.{UNIT_LIMIT}
-use Rattle.bb_board_state.proofs.Laws.{few_ends, few_pass}
+use Rattle.bb_board.proofs.Laws.{few_ends, few_pass}
 use Rattle.std.proofs.lemmas.Bool.{le-leb}
 
 get_on : (b : Board) (slot : ℕ) (m : Machine) (n : ℕ) (rest : List Value) (v : SlotValue) → m.stack ≡ values.Unit n ∷ rest → is_live b.world.units n ≡ true → value_of b.world.units n slot ≡ Some v

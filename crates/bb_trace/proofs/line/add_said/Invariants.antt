@@ -1,5 +1,5 @@
 use Rattle.std.proofs.Common.{◌≡◌, ◌++◌, take, string_bytes}
-use Rattle.bb_board.specs.Note.TheVariants.{Said}
+use Rattle.bb_board.specs.declared.note.Note.TheVariants.{Said}
 use Rattle.bb_trace.specs.TraceText.{board_note_text}
 use Rattle.bb_trace.proofs.line.add_said.Given as goal
 

@@ -21,7 +21,8 @@ pub loop-index-preserved : goal.loop-index-preserved
 loop-index-preserved c = (
   fold_at_next (inside lists.Units) (entry_after c.args.schema.now) unit_declaration (progress_of c.loop-index.self) (progress_of c.add.new.self) c.args.entries.now c.loop-index.index c.index-entries-index.result _ c.loop-index-test.true c.index-entries-index.is
       (placed_ok Memory (inside lists.Units c.loop-index.index) (λ _. (progress_of c.add.new.self)) c.add.result ((entry_after c.args.schema.now) (progress_of c.loop-index.self) (unit_declaration c.index-entries-index.result)) c.in_ok-placed.field-0 c.add.ensures.gives c.in_ok-placed.ensures) c.loop-index.invariant.0,
-  placed_leaves (c.add.new.self.world.schema ≡ c.loop-index.self.world.schema) (inside lists.Units c.loop-index.index) c.add.result c.in_ok-placed.field-0 c.in_ok-placed.ensures c.add.ensures.schema ∙ c.loop-index.invariant.1,
+  placed_leaves (c.add.new.self.board.schema ≡ c.loop-index.self.board.schema) (inside lists.Units c.loop-index.index) c.add.result c.in_ok-placed.field-0 c.in_ok-placed.ensures c.add.ensures.schema ∙ c.loop-index.invariant.1,
+  placed_leaves (c.add.new.self.board.refused ≡ c.loop-index.self.board.refused) (inside lists.Units c.loop-index.index) c.add.result c.in_ok-placed.field-0 c.in_ok-placed.ensures c.add.ensures.refused ∙ c.loop-index.invariant.2,
 )
 
 pub returns-clause-gives : goal.returns-clause-gives

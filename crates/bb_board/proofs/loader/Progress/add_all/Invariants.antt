@@ -11,4 +11,5 @@ abbrev pub invariant-loop-index : goal.invariant-loop-index
 invariant-loop-index l =
     (try_fold_at (inside lists.Units) (entry_after l.schema) l.index (progress_of l.self) (drop l.index (map unit_declaration l.entries))
     ≡ try_fold_at (inside lists.Units) (entry_after l.fn.schema) 0 (progress_of l.fn.self) (map unit_declaration l.fn.entries))
-    × (l.self.world.schema ≡ l.fn.self.world.schema)
+    × (l.self.board.schema ≡ l.fn.self.board.schema)
+    × (l.self.board.refused ≡ l.fn.self.board.refused)

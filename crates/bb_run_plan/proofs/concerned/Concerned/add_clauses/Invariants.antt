@@ -1,5 +1,5 @@
 use Rattle.std.proofs.Common.{◌≡◌, take}
-use Rattle.bb_board.specs.Event.{Event}
+use Rattle.bb_board.specs.declared.event.Event.{Event}
 use Rattle.bb_rules.specs.KindIndex.{put_if}
 use Rattle.bb_run_plan.specs.Concerned.{any_of_kind}
 use Rattle.bb_run_plan.specs.proving.Concerned.{places_for}

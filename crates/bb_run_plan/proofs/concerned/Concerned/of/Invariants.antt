@@ -1,5 +1,5 @@
 use Rattle.std.proofs.Common.{◌≡◌, take}
-use Rattle.bb_board.specs.Event.{Event}
+use Rattle.bb_board.specs.declared.event.Event.{Event}
 use Rattle.bb_run_plan.specs.Concerned.{concerned_from}
 use Rattle.bb_run_plan.specs.proving.Concerned.{places_for}
 use Rattle.bb_run_plan.proofs.concerned.Concerned.of.Given as goal

@@ -1,5 +1,0 @@
-use Rattle.bb_board_state.proofs.FoundLemmas.{none_found}
-use Rattle.bb_board_state.proofs.found.Found.new.Goals as goal
-
-pub invariant_of-result : goal.invariant_of-result
-invariant_of-result c = rw c.new.ensures.items (none_found c.new-2.result c.new-2.ensures.empty)
