@@ -32,3 +32,4 @@ pub mod QuietLemmas
 pub mod ReadLemmas
 pub mod SpaceLemmas
 pub mod Rows
+pub mod Numbers

@@ -11,3 +11,5 @@ pub mod Codes
 pub mod Laws
 pub mod OpsLaws
 pub mod Limits
+pub mod Numbers
+pub mod FlawNumbers

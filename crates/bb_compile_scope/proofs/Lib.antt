@@ -4,3 +4,4 @@ pub mod PairLemmas
 pub mod ChainLemmas
 -- for crates above
 pub mod Laws
+pub mod Numbers

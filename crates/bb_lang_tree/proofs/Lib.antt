@@ -3,3 +3,4 @@ pub mod ScopeLemmas
 pub mod WordLemmas
 pub mod LiteralLemmas
 pub mod Limits
+pub mod Numbers

@@ -9,3 +9,4 @@ pub mod FullLemmas
 -- what crates above use
 pub mod StateLaws
 pub mod StackLemmas
+pub mod Numbers

@@ -1,3 +1,4 @@
 pub mod CommandLemmas
 pub mod NumberLemmas
 pub mod AnswerLemmas
+pub mod Limits

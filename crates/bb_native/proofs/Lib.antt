@@ -4,3 +4,4 @@ pub mod Laws
 mod AppliedLemmas
 mod AskedLemmas
 mod RosterLemmas
+pub mod Numbers

@@ -2,3 +2,5 @@ pub mod IndexLemmas
 pub mod LawLemmas
 pub mod StepLemmas
 pub mod Laws
+pub mod Numbers
+pub mod Rows

@@ -15,3 +15,4 @@ pub mod WalkLemmas
 pub mod SpanLemmas
 pub mod Laws
 pub mod Limits
+pub mod Numbers

@@ -6,3 +6,4 @@ pub mod QuickLemmas
 pub mod DocumentLemmas
 pub mod EntryLemmas
 pub mod Limits
+pub mod Rows

@@ -13,3 +13,4 @@ pub mod Limits
 pub mod CheckedLemmas
 pub mod Laws
 pub mod nesting_lemmas
+pub mod Rows
