@@ -5,6 +5,9 @@ use Rattle.bb_lang.specs.Blocks.{BlockTree}
 use Rattle.bb_lang.specs.BlockView.{block_of, statement_of}
 use Rattle.bb_lang.specs.proving.BlockCodes.{block_size}
 use Rattle.bb_compile_scope.specs.proving.Sizes.{statement_size}
+pub use Rattle.bb_compile_scope.proofs.LocalLemmas.{at_same, at_other, set_twice, free_first, taken_within, struck_at}
+pub use Rattle.bb_compile_scope.proofs.LocalLemmas.{frees, frees_same, frees_taken, length_paired, met_free}
+pub use Rattle.bb_compile_scope.proofs.SlotLemmas.{set_of_slot, class_of_link}
 
 at_index : (ss : List Placed) (i : ℕ) (d : Placed) → i < length ss → statement_size (statement_of (get_or ss i d).statement) + 2 ≤ block_size (block_of ss)
 at_index [] i d lt = absurd (omega arith)

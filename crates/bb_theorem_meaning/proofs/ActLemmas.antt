@@ -11,6 +11,7 @@ use Rattle.bb_verify_effect.specs.Op.TheVariants as ops
 use Rattle.bb_compile_scope.specs.declared.scope.NamedLocal.{NamedLocal}
 use Rattle.bb_compile_scope.specs.declared.scope.Scope.{Scope}
 use Rattle.bb_compile_scope.specs.LocalKinds.{is_free, kind_at}
+use Rattle.bb_compile_scope.proofs.Laws.{free_first}
 use Rattle.bb_theorem_accepted.specs.Buffer.{Buffer}
 use Rattle.bb_theorem_accepted.specs.Buffers.{declare}
 use Rattle.bb_machine.specs.Board.{Board}
@@ -30,7 +31,7 @@ use Rattle.bb_theorem_meaning.proofs.ComeLemmas.{Leaves, done_on, Comes, Gets, g
 use Rattle.bb_theorem_meaning.proofs.MeansLemmas.{Means, part_gets, Value₀}
 use Rattle.bb_theorem_meaning.proofs.NameLemmas.{AreHeld, AreTaken}
 use Rattle.bb_theorem_meaning.proofs.OpLemmas.{Pushed}
-use Rattle.bb_theorem_meaning.proofs.SceneLemmas.{AreApart, known_set, all_known, known_new, taken_more, free_other, apart_more, first_free, held_declared}
+use Rattle.bb_theorem_meaning.proofs.SceneLemmas.{AreApart, known_set, all_known, known_new, taken_more, free_other, apart_more, held_declared}
 use Rattle.bb_theorem_meaning.proofs.KeepLemmas.{Keeps, Moves, moves_same, moves_kept}
 use Rattle.std.proofs.lemmas.List.{append-nil, length-set}
 
@@ -99,7 +100,7 @@ declared_tidy name kind s t d known tidy =
     let own : is_free (kind_at (set (set s.scope.kinds d.local kind) d.local kind) d.local) ≡ false = known_new (set s.scope.kinds d.local kind) d.local kind known (omega (arith, lt, length-set s.scope.kinds d.local kind)) in
     record {
       taken = subst (λ ks. AreTaken ks t.scope.names) (sym d.kinds) (subst (AreTaken (set (set s.scope.kinds d.local kind) d.local kind)) (sym d.names) (taken_more s.scope.names (set (set s.scope.kinds d.local kind) d.local kind) n twice own));
-      apart = subst AreApart (sym d.names) (apart_more s.scope.names n tidy.apart (free_other s.scope.names s.scope.kinds d.local tidy.taken (first_free s.scope.kinds d.local d.free)));
+      apart = subst AreApart (sym d.names) (apart_more s.scope.names n tidy.apart (free_other s.scope.names s.scope.kinds d.local tidy.taken (free_first s.scope.kinds d.local d.free)));
     }
 
 pub declared_moves : (name : List ℕ) (kind : Kind) (s t : Buffer) → Declares name kind s t → is_free kind ≡ false → Moves s.scope t.scope
@@ -179,7 +180,7 @@ module _ (code : Code) (start : State) where
       last_gets (ops.Store d.local) s t (λ n. IsScene n t.scope.names) (Ok (where_named name v scene)) st d.last refl has c (λ n x next i. i.place)
       (store_leaves d.local (length s.ops + 1) t.scope.names (where_named name v scene) (go_to (length s.ops + 1) st.0) st.1 v refl h.stack h.board
       (λ lt. subst (λ ns. AreHeld (set st.0.locals d.local (Some v)) ns (names.with_name name v scene.names)) (sym d.names)
-      (held_declared st.0.locals s.scope.names scene.names name d.local v (free_other s.scope.names s.scope.kinds d.local tidy.taken (first_free s.scope.kinds d.local d.free)) h.held lt)))
+      (held_declared st.0.locals s.scope.names scene.names name d.local v (free_other s.scope.names s.scope.kinds d.local tidy.taken (free_first s.scope.kinds d.local d.free)) h.held lt)))
 
   -- a name that is there gets the value on the stack
   pub assign_gets : (local : ℕ) (s t : Buffer) → Last (ops.Store local) s t → Has code t → (st : State) (scene after : Scene) (v : Value) → Comes code start (length s.ops) (Ok st) → Holds (length s.ops) s.scope.names scene v st → after.board ≡ scene.board

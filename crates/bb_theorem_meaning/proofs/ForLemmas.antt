@@ -17,6 +17,7 @@ use Rattle.bb_lang.specs.Blocks.{BlockTree, for_of}
 use Rattle.bb_lang.specs.Sequence.{Sequence as SequenceText}
 use Rattle.bb_lang.specs.View.{sequence_of}
 use Rattle.bb_compile_scope.specs.declared.scope.NamedLocal.{NamedLocal}
+use Rattle.bb_compile_scope.proofs.Laws.{free_first}
 use Rattle.bb_theorem_accepted.specs.Buffer.{Buffer}
 use Rattle.bb_machine.specs.Board.{Board}
 use Rattle.bb_machine.specs.Changing.{State}
@@ -36,7 +37,7 @@ use Rattle.bb_theorem_meaning.proofs.ComeLemmas.{Leaves, done_on, Comes, Gets, g
 use Rattle.bb_theorem_meaning.proofs.NameLemmas.{AreHeld}
 use Rattle.bb_theorem_meaning.proofs.SequenceLemmas.{as_sequence}
 use Rattle.bb_theorem_meaning.proofs.ExprLemmas.{sequence_means}
-use Rattle.bb_theorem_meaning.proofs.SceneLemmas.{AreOthers, sole_of, free_other, first_free, held_apart}
+use Rattle.bb_theorem_meaning.proofs.SceneLemmas.{AreOthers, sole_of, free_other, held_apart}
 use Rattle.bb_theorem_meaning.proofs.KeepLemmas.{moves_kept}
 use Rattle.bb_theorem_meaning.proofs.AtomLemmas.{Good}
 use Rattle.bb_theorem_meaning.proofs.ActLemmas.{IsTidy, IsScene, Holds, Acts, act_in, store_on}
@@ -99,7 +100,7 @@ module _ (schema : Schema) (sf : schemas.Fits schema) (part : Part) (code : Code
     keeps_names = loop_keeps schema part loops name sequence body s t now f sole
 
     others : AreOthers f.local s.scope.names
-    others = free_other s.scope.names s.scope.kinds f.local tidy.taken (first_free s.scope.kinds f.local runs.free)
+    others = free_other s.scope.names s.scope.kinds f.local tidy.taken (free_first s.scope.kinds f.local runs.free)
 
     -- the sequence is in its local
     stored_gets : (st : State) (scene : Scene) (v : Value) → Comes code start (length before.ops) (Ok st) → Holds code start (length before.ops) s.scope.names scene v st

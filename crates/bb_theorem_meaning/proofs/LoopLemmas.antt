@@ -30,12 +30,13 @@ use Rattle.bb_machine.specs.declared.value.Value.{Value}
 use Rattle.bb_machine.specs.declared.value.Value.TheVariants.{Unit as One, Seq}
 use Rattle.bb_theorem_machine.specs.NeverWrong.{Stands, after}
 use Rattle.bb_theorem_accepted.proofs.Laws.{with_op, ForLaid, LoopRuns}
+use Rattle.bb_compile_scope.proofs.Laws.{free_first}
 use Rattle.bb_theorem_meaning.specs.Meaning.{Meaning, Name}
 use Rattle.bb_theorem_meaning.specs.Statements.{Scene, where_named, where_unit, for_each, statements}
 use Rattle.bb_theorem_meaning.proofs.ComeLemmas.{Came, Leaves, leaves_on, more_after, then_after, Spares, AllFit, Stays, Comes, comes_first, stays_on, Gets, gets_then}
 use Rattle.bb_theorem_meaning.proofs.NameLemmas.{AreHeld}
 use Rattle.bb_theorem_meaning.proofs.AtomLemmas.{Good}
-use Rattle.bb_theorem_meaning.proofs.SceneLemmas.{AreOthers, free_other, first_free, held_apart}
+use Rattle.bb_theorem_meaning.proofs.SceneLemmas.{AreOthers, free_other, held_apart}
 use Rattle.bb_theorem_meaning.proofs.KeepLemmas.{moves_on, held_count}
 use Rattle.bb_theorem_meaning.proofs.ActLemmas.{IsTidy, IsScene, Holds, Acts, Declares, declare_ok, declared_tidy, declared_moves, declare_gets}
 use Rattle.bb_theorem_meaning.proofs.BlockLemmas.{tidy_kept}
@@ -115,7 +116,7 @@ module _ (schema : Schema) (sf : schemas.Fits schema) (part : Part) (code : Code
 
   -- the local of the sequence is that of no name
   apart : AreOthers l s.scope.names
-  apart = free_other s.scope.names s.scope.kinds l tidy.taken (first_free s.scope.kinds l lr.free)
+  apart = free_other s.scope.names s.scope.kinds l tidy.taken (free_first s.scope.kinds l lr.free)
 
   fits_all : (start : State) → Reached schema code frames start → AllFit code start
   fits_all start reached i st h =

@@ -1,9 +1,7 @@
 -- Names and locals, where one is declared or gets another value.
 use Rattle.std.proofs.Common.{◌≡◌, ℕ, zero, suc, ◌<◌, Bool, true, false, cond, List, [], ◌∷◌, ◌++◌, length, map, Option, Some, refl, subst, sym, ap, ◌∙◌}
-use Rattle.std.specs.Prelude.{slice_get, set, find, position, option_map, unwrap_or}
+use Rattle.std.specs.Prelude.{slice_get, set, find, option_map, unwrap_or}
 use Rattle.std.specs.Str.{bytes_eq}
-use Rattle.std.proofs.lemmas.List.Quantifiers.{position-Some}
-use Rattle.std.proofs.lemmas.Option.{unwrap_or-slice_get}
 use Rattle.bb_basis.proofs.ListLemmas.{slice_get-set}
 use Rattle.bb_verify_effect.specs.Kind.{Kind}
 use Rattle.bb_verify_effect.specs.Kind.TheVariants as kinds
@@ -77,10 +75,6 @@ others_more (m ∷ ms) i n others apart = (others.0, others_more ms i n others.1
 pub apart_more : (ns : List NamedLocal) (n : NamedLocal) → AreApart ns → AreOthers n.local ns → AreApart (ns ++ n ∷ [])
 apart_more [] n apart others = (tt, tt)
 apart_more (m ∷ ms) n apart others = (others_more ms m.local n apart.0 (λ e. others.0 (sym e)), apart_more ms n apart.1 others.1)
-
--- the lowest free local
-pub first_free : (ks : List Kind) (i : ℕ) → position is_free ks ≡ Some i → is_free (kind_at ks i) ≡ true
-first_free ks i h = ap is_free (unwrap_or-slice_get ks i kinds.Any) ∙ (position-Some is_free ks i kinds.Any h).1
 
 -- once units may be deleted
 struck_known : (s : Schema) (class : ℕ) (k : Kind) → is_free k ≡ false → is_free (struck s class k) ≡ false

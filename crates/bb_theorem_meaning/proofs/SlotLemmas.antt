@@ -6,6 +6,7 @@ use Rattle.std.specs.Option.{option_map_or}
 use Rattle.std.specs.FinMap.{get}
 use Rattle.std.proofs.lemmas.Bool.{eqb-true}
 use Rattle.std.proofs.lemmas.Option.{slice_get-map}
+use Rattle.bb_basis.proofs.BoolLemmas.{and_first}
 use Rattle.bb_schema_classes.specs.declared.value.Value.{Value}
 use Rattle.bb_schema_classes.specs.declared.class.Class.{Class}
 use Rattle.bb_schema_classes.specs.Inheritance.{is_among}
@@ -14,7 +15,7 @@ use Rattle.bb_schema.specs.Schema.{Schema, slot_named, slots_of, descends}
 use Rattle.bb_schema.specs.Slots.{has_name, link_of}
 use Rattle.bb_schema.specs.Fits as schemas
 use Rattle.bb_units.specs.declared.unit.Unit.{Unit}
-use Rattle.bb_units.specs.Layout.{Layout, layout_of, default_at}
+use Rattle.bb_units.specs.Layout.{Layout, default_at}
 use Rattle.bb_units.specs.Layout as layouts
 use Rattle.bb_units.specs.Units.{value_of, has_slot, is_live}
 use Rattle.bb_units.proofs.Laws.{has_its_slots}
@@ -58,10 +59,6 @@ module _ (s : Schema) (w : World) (sf : schemas.Fits s) (fits : Fits s w) (n slo
       by_class : (o : Option Class) → option_map_or (λ slots. slots) (option_map (λ (k : Class). k.slots) o) [] ≡ option_map_or (λ k. k.slots) o []
       by_class None = refl
       by_class (Some k) = refl
-
-  and_first : (a b : Bool) → (a && b) ≡ true → a ≡ true
-  and_first true b h = refl
-  and_first false b h = h
 
   has_by : (o : Option Unit) → option_map_or (λ x. list_any (λ t. t == slot) (layouts.slots_of w.units.layout x.class) && is_some (default_at w.units.layout.defaults slot)) o false ≡ true
       → list_any (λ t. t == slot) (layouts.slots_of w.units.layout (unwrap_or (option_map (λ x. x.class) o) 0)) ≡ true

@@ -24,6 +24,7 @@ use Rattle.bb_compile_scope.specs.declared.scope.Scope.{Scope}
 use Rattle.bb_compile_scope.specs.Kinds.{assigned}
 use Rattle.bb_compile_scope.specs.LocalKinds.{is_free, kind_at}
 use Rattle.bb_compile_scope.specs.Scope.{local_of}
+use Rattle.bb_compile_scope.proofs.Laws.{free_first}
 use Rattle.bb_compile_buffer.specs.declared.buffer.Buffer.{Buffer}
 use Rattle.bb_compile_buffer.specs.Buffers.{noted, put, with_kinds, declare}
 use Rattle.bb_compile_buffer.specs.Operations.{Made}
@@ -37,7 +38,6 @@ use Rattle.bb_theorem_accepted.proofs.blocks.BranchLemmas.{TestLaid}
 use Rattle.bb_theorem_accepted.proofs.blocks.HeadLemmas.{Tested, HeadLaid}
 use Rattle.bb_theorem_accepted.proofs.blocks.GuardLemmas.{Guard, exits_of, tested_puts, test_guard, head_guard, named_guard}
 use Rattle.bb_theorem_accepted.proofs.kinds.KnowLemmas.{is_sequence}
-use Rattle.bb_theorem_accepted.proofs.kinds.MoveLemmas.{free_first}
 use Rattle.bb_theorem_accepted.proofs.straight.StoreLemmas.{declared_on, declare_is}
 use Rattle.bb_theorem_accepted.proofs.buffers.QuietLemmas.{is_calm, AreCalm, are_calm, calm_on}
 use Rattle.bb_theorem_accepted.proofs.buffers.StayLemmas.{Stays, same_on, itself, behind, same, keeps_ok, flawed, unless_flawed, put_keeps, variable_keeps, unit_keeps, expr_keeps}

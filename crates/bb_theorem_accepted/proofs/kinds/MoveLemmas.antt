@@ -1,11 +1,9 @@
 -- What statements without blocks do to a scope: it stays tidy, and each local that is taken stays of its kind.
-use Rattle.std.proofs.Common.{◌≡◌, ◌⊎◌, inl, inr, ℕ, zero, suc, ◌+◌, ◌<◌, ◌≤◌, Bool, true, false, cond, List, [], ◌∷◌, ◌++◌, length, map, Option, Some, None, Ok, refl, subst, sym, ap, ◌∙◌, arith, append_assoc}
+use Rattle.std.proofs.Common.{◌≡◌, ◌⊎◌, inl, inr, ℕ, ◌+◌, ◌<◌, ◌≤◌, Bool, true, false, cond, List, [], ◌∷◌, ◌++◌, length, map, Option, Some, None, Ok, refl, subst, sym, ap, ◌∙◌, arith, append_assoc}
 use Rattle.std.specs.Prelude.{set, max, position, option_and_then, ◌==◌}
 use Rattle.std.proofs.Math.Nat.{le-max_left, le-max_right}
 use Rattle.std.proofs.lemmas.Bool.{eqb-true, eq-eqb}
 use Rattle.std.proofs.lemmas.List.{append-nil, length-set}
-use Rattle.std.proofs.lemmas.Option.{unwrap_or-slice_get}
-use Rattle.std.proofs.lemmas.List.Quantifiers.{position-Some}
 use Rattle.bb_basis.proofs.PositionLemmas.{position_within}
 use Rattle.bb_schema.specs.Schema.{Schema, descends}
 use Rattle.bb_schema.specs.Ownership.{strikes}
@@ -18,24 +16,11 @@ use Rattle.bb_compile_scope.specs.declared.scope.NamedLocal.{NamedLocal}
 use Rattle.bb_compile_scope.specs.declared.scope.Scope.{Scope}
 use Rattle.bb_compile_buffer.specs.declared.buffer.Buffer.{Buffer}
 use Rattle.bb_compile_scope.specs.Kinds.{class_of, is_live, unit_of, assigned_unit, assigned}
+use Rattle.bb_compile_scope.proofs.Laws.{taken_within, at_same, at_other, free_first}
 use Rattle.bb_verify.specs.Tables.{known_kind}
-use Rattle.bb_theorem_accepted.proofs.kinds.UnderLemmas.{descends_same, known_within}
+use Rattle.bb_theorem_accepted.proofs.kinds.UnderLemmas.{descends_same}
 use Rattle.bb_theorem_accepted.proofs.kinds.KnowLemmas.{HasLocal, AllTaken, Agree, aged, is_sequence, sequence_aged, under_value, taken_on, agree_on}
 use Rattle.bb_theorem_accepted.proofs.kinds.ValueLemmas.{IsGood, IsFit, good_fits}
-
--- ---- locals that are set
-
-pub at_same : (ks : List Kind) (i : ℕ) (k : Kind) → i < length ks → kind_at (set ks i k) i ≡ k
-at_same [] i k lt = absurd (omega (arith, lt))
-at_same (x ∷ xs) zero k lt = refl
-at_same (x ∷ xs) (suc i) k lt = at_same xs i k (omega (arith, lt))
-
-pub at_other : (ks : List Kind) (i j : ℕ) (k : Kind) → (j ≡ i → ⊥) → kind_at (set ks i k) j ≡ kind_at ks j
-at_other [] i j k apart = refl
-at_other (x ∷ xs) zero zero k apart = absurd (apart refl)
-at_other (x ∷ xs) zero (suc j) k apart = refl
-at_other (x ∷ xs) (suc i) zero k apart = refl
-at_other (x ∷ xs) (suc i) (suc j) k apart = at_other xs i j k (λ e. apart (ap suc e))
 
 pub one_or_other : (j i : ℕ) → (j ≡ i) ⊎ (j ≡ i → ⊥)
 one_or_other j i = by_test (j == i) refl
@@ -43,10 +28,6 @@ one_or_other j i = by_test (j == i) refl
     by_test : (b : Bool) → (j == i) ≡ b → (j ≡ i) ⊎ (j ≡ i → ⊥)
     by_test true h = inl (eqb-true j i h)
     by_test false h = inr (λ e. absurd (let no : true ≡ false = sym (eq-eqb j i e) ∙ h in cc))
-
--- the lowest free local
-pub free_first : (ks : List Kind) (i : ℕ) → position is_free ks ≡ Some i → is_free (kind_at ks i) ≡ true
-free_first ks i h = ap is_free (unwrap_or-slice_get ks i kinds.Any) ∙ (position-Some is_free ks i kinds.Any h).1
 
 pub last_some : {A : Type 0} (xs : List A) (x : A) → 1 ≤ length (xs ++ x ∷ [])
 last_some [] x = omega arith
@@ -69,12 +50,6 @@ struck_aged s c (kinds.Label set) = refl
 struck_aged s c kinds.Interval = refl
 struck_aged s c (kinds.Old d) = refl
 struck_aged s c (kinds.Seq d) = refl
-
-pub struck_at : (s : Schema) (c : ℕ) (ks : List Kind) (i : ℕ) → kind_at (map (struck s c) ks) i ≡ struck s c (kind_at ks i)
-unfolding struck
-struck_at s c [] i = refl
-struck_at s c (k ∷ ks) zero = refl
-struck_at s c (k ∷ ks) (suc i) = struck_at s c ks i
 
 -- what a name holds once a value is assigned to it: what it held, or a unit of its class
 abbrev pub IsAssigned : (held now : Kind) → Type 0
@@ -312,7 +287,7 @@ module _ (s : Schema) (sf : schemas.Fits s) where
       becomes_so = assigned_as s (kind_at t.scope.kinds local) value now becomes
 
       here : Tidy t → kind_at u.scope.kinds local ≡ now
-      here tidy = ap (λ ks. kind_at ks local) kinds_are ∙ at_same t.scope.kinds local now (known_within t.scope.kinds local (taken tidy))
+      here tidy = ap (λ ks. kind_at ks local) kinds_are ∙ at_same t.scope.kinds local now (taken_within t.scope.kinds local (taken tidy))
 
       there : (i : ℕ) → (i ≡ local → ⊥) → kind_at u.scope.kinds i ≡ kind_at t.scope.kinds i
       there i apart = ap (λ ks. kind_at ks i) kinds_are ∙ at_other t.scope.kinds local i now apart

@@ -1,11 +1,10 @@
 -- What the verifier knows of a value, where the compiler takes it for a value of a kind: a unit may be of a class
 -- below.
-use Rattle.std.proofs.Common.{◌≡◌, ◌≢◌, ◌⊎◌, inl, inr, ℕ, zero, suc, ◌<◌, Bool, true, false, cond, List, [], ◌∷◌, ◌++◌, length, map, Option, Some, None, Ok, refl, subst, sym, ap, ◌∙◌, arith}
+use Rattle.std.proofs.Common.{◌≡◌, ◌≢◌, ◌⊎◌, inl, inr, ℕ, ◌<◌, Bool, true, false, cond, List, [], ◌∷◌, ◌++◌, length, map, Option, Some, None, Ok, refl, subst, sym, ap, ◌∙◌}
 use Rattle.std.specs.Prelude.{◌==◌, option_and_then, option_map, set, find, get_or}
 use Rattle.std.specs.Str.{bytes_eq}
 use Rattle.std.proofs.lemmas.Bool.{eqb-true, eq-eqb}
 use Rattle.std.proofs.lemmas.List.{get_or-set_same, get_or-set_other, length-set, length-map}
-use Rattle.std.proofs.Math.ListN.{get_or-map}
 use Rattle.std.proofs.lemmas.Option.{unwrap_or-slice_get}
 use Rattle.bb_schema_classes.specs.Inheritance.{itself}
 use Rattle.bb_schema_classes.proofs.Laws.{climbs_sound, descends_complete}
@@ -21,6 +20,7 @@ use Rattle.bb_verify.specs.Due as due
 use Rattle.bb_compile_scope.specs.Kinds.{class_of, is_live, unit_of, assigned_unit, assigned}
 use Rattle.bb_compile_scope.specs.LocalKinds.{is_free, kind_at}
 use Rattle.bb_compile_scope.specs.declared.scope.NamedLocal.{NamedLocal}
+use Rattle.bb_compile_scope.proofs.Laws.{struck_at}
 
 -- ---- plain kinds that are tested to be the same are the same
 
@@ -232,31 +232,12 @@ module _ (s : Schema) (sf : schemas.Fits s) where
       let here : (ks : List Kind) (x : Kind) → i < length ks → kind_at (set ks i x) i ≡ x = λ ks x low. at_is (set ks i x) i ∙ get_or-set_same ks i x Any low in
       subst (λ x. IsUnder x (kind_at (set thought i t) i)) (sym (here locals k lt)) (subst (IsUnder k) (sym (here thought t lt_t)) u)
 
-  no_unit : (class : ℕ) → struck s class Any ≡ Any
-  unfolding struck
-  no_unit class = refl
-
   -- a unit was deleted
   pub known_struck : (locals thought : List Kind) (ns : List NamedLocal) (b c : ℕ) → descends s b c ≡ true → AreKnown locals thought ns → AreKnown (map (struck s b) locals) (map (struck s c) thought) ns
   known_struck locals thought [] b c below known = tt
   known_struck locals thought (n ∷ ns) b c below known = (
     subst (λ m. n.local < m) (sym (length-map locals (struck s b))) known.0,
-    subst (λ x. IsUnder x (kind_at (map (struck s c) thought) n.local)) (sym (struck_at b locals n.local))
-        (subst (IsUnder (struck s b (kind_at locals n.local))) (sym (struck_at c thought n.local)) (under_struck b c below (kind_at locals n.local) (kind_at thought n.local) known.1)),
+    subst (λ x. IsUnder x (kind_at (map (struck s c) thought) n.local)) (sym (struck_at s b locals n.local))
+        (subst (IsUnder (struck s b (kind_at locals n.local))) (sym (struck_at s c thought n.local)) (under_struck b c below (kind_at locals n.local) (kind_at thought n.local) known.1)),
     known_struck locals thought ns b c below known.2,
   )
-    where
-      struck_at : (class : ℕ) (ks : List Kind) (i : ℕ) → kind_at (map (struck s class) ks) i ≡ struck s class (kind_at ks i)
-      struck_at class ks i =
-          at_is (map (struck s class) ks) i ∙ (ap (get_or (map (struck s class) ks) i) (sym (no_unit class)) ∙ (get_or-map (struck s class) ks i Any ∙ ap (struck s class) (sym (at_is ks i))))
-
-pub set_twice : (ks : List Kind) (i : ℕ) (k : Kind) → set (set ks i k) i k ≡ set ks i k
-set_twice [] i k = refl
-set_twice (x ∷ xs) zero k = refl
-set_twice (x ∷ xs) (suc i) k = ap (λ l. x ∷ l) (set_twice xs i k)
-
--- a kind that is known stands in the list
-pub known_within : (ks : List Kind) (i : ℕ) → is_free (kind_at ks i) ≡ false → i < length ks
-known_within [] i known = absurd cc
-known_within (k ∷ ks) zero known = omega arith
-known_within (k ∷ ks) (suc i) known = let lt = known_within ks i known in omega (arith, lt)

@@ -12,7 +12,7 @@ use Rattle.bb_compile_scope.specs.LocalKinds.{is_free, kind_at, kinds_left}
 use Rattle.bb_compile_scope.specs.declared.scope.Scope.{Scope}
 use Rattle.bb_compile_buffer.specs.declared.buffer.Buffer.{Buffer}
 use Rattle.bb_verify.specs.PartType.{Part}
-use Rattle.bb_theorem_accepted.proofs.kinds.UnderLemmas.{descends_same, set_twice}
+use Rattle.bb_theorem_accepted.proofs.kinds.UnderLemmas.{descends_same}
 use Rattle.bb_theorem_accepted.proofs.buffers.BufferLemmas.{count_of}
 use Rattle.bb_code.specs.declared.parts.TheConstants.{STACK_LIMIT}
 use Rattle.bb_theorem_accepted.proofs.buffers.LayLemmas.{LaysUnits}
@@ -32,11 +32,12 @@ use Rattle.std.proofs.Math.Nat.{le-max_left, le-max_right}
 use Rattle.std.proofs.lemmas.List.{length-set}
 use Rattle.bb_basis.proofs.PositionLemmas.{position_within}
 use Rattle.bb_compile_scope.specs.Kinds.{is_live}
+use Rattle.bb_compile_scope.proofs.Laws.{at_same, at_other, set_twice}
 use Rattle.bb_verify.specs.FrameType.{Frame}
 use Rattle.bb_verify.specs.Frame.{with_local, local_at}
 use Rattle.bb_verify.specs.Places.{fits_declared, on_due, target_due}
 use Rattle.bb_theorem_accepted.proofs.kinds.KnowLemmas.{aged, IsKept, Knows, knows_left}
-use Rattle.bb_theorem_accepted.proofs.kinds.MoveLemmas.{at_same, at_other, one_or_other}
+use Rattle.bb_theorem_accepted.proofs.kinds.MoveLemmas.{one_or_other}
 use Rattle.bb_theorem_accepted.proofs.walks.JoinLemmas.{HasFrame, at_range, declared_good, label_fits}
 use Rattle.bb_theorem_accepted.proofs.walks.WalkLemmas.{At}
 use Rattle.bb_theorem_accepted.proofs.walks.GoesLemmas.{Goes}

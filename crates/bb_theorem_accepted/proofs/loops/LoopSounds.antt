@@ -11,10 +11,11 @@ use Rattle.bb_verify_effect.specs.Kind.TheVariants as kinds
 use Rattle.bb_compile_scope.specs.Kinds.{class_of, is_live}
 use Rattle.bb_compile_scope.specs.LocalKinds.{is_free, kind_at}
 use Rattle.bb_compile_scope.specs.declared.scope.NamedLocal.{NamedLocal}
+use Rattle.bb_compile_scope.proofs.Laws.{at_same, at_other}
 use Rattle.bb_compile_buffer.specs.declared.buffer.Buffer.{Buffer}
 use Rattle.bb_theorem_accepted.proofs.kinds.KnowLemmas.{aged, Agree, is_sequence, sequence_aged, taken_on, HasLocal, AllTaken, IsKept, Knows, kept_aged}
 use Rattle.bb_theorem_accepted.proofs.kinds.ValueLemmas.{IsFit}
-use Rattle.bb_theorem_accepted.proofs.kinds.MoveLemmas.{Tidy, Sole, sole_agree, at_same, at_other, one_or_other, good_unit, taken_agree}
+use Rattle.bb_theorem_accepted.proofs.kinds.MoveLemmas.{Tidy, Sole, sole_agree, one_or_other, good_unit, taken_agree}
 use Rattle.bb_theorem_accepted.proofs.sparing.ScopeLemmas.{Levels}
 use Rattle.bb_theorem_accepted.proofs.sparing.SpareLemmas.{aged_class}
 use Rattle.bb_theorem_accepted.proofs.sparing.ForActs.{AreNamed}

@@ -17,6 +17,7 @@ use Rattle.bb_lang.specs.Blocks.{BlockTree}
 use Rattle.bb_lang.specs.Sequence.{Sequence}
 use Rattle.bb_lang.specs.View.{sequence_of}
 use Rattle.bb_compile_scope.specs.LocalKinds.{is_free, kind_at}
+use Rattle.bb_compile_scope.proofs.Laws.{at_same, free_first}
 use Rattle.bb_compile_buffer.specs.declared.buffer.Buffer.{Buffer}
 use Rattle.bb_compile.specs.Expressions.{sequence_code}
 use Rattle.bb_verify.specs.nesting.Loops.{op_before, is_head, is_end}
@@ -29,7 +30,7 @@ use Rattle.bb_theorem_accepted.proofs.blocks.ForLays as lays
 use Rattle.bb_theorem_accepted.proofs.kinds.KnowLemmas.{is_sequence, taken_on}
 use Rattle.bb_theorem_accepted.proofs.blocks.LoopLaid.{ForLaid}
 use Rattle.bb_theorem_accepted.proofs.nests.LoopOrder.{within_more, shallow_more}
-use Rattle.bb_theorem_accepted.proofs.kinds.MoveLemmas.{Sole, at_same, free_first}
+use Rattle.bb_theorem_accepted.proofs.kinds.MoveLemmas.{Sole}
 use Rattle.bb_theorem_accepted.proofs.nests.NestBranches.{Watched, sequence_taken, watched_on, calm_exit, calm_may, Nested}
 use Rattle.bb_theorem_accepted.proofs.nests.NestLemmas.{exit_of, loops_map, May, Inside, Passes, may_right, Each, each_on, each_one, Fine, Nest}
 use Rattle.bb_theorem_accepted.proofs.buffers.QuietLemmas.{are_calm, calm_there}

@@ -21,6 +21,7 @@ use Rattle.bb_compile_scope.specs.Kinds.{class_of, is_live, assigned}
 use Rattle.bb_compile_scope.specs.LocalKinds.{is_free, kind_at}
 use Rattle.bb_compile_scope.specs.Scope.{name_of, local_of}
 use Rattle.bb_compile_scope.specs.declared.scope.Scope.{Scope}
+use Rattle.bb_compile_scope.proofs.Laws.{at_same, at_other, struck_at, set_twice, taken_within, frees, frees_taken}
 use Rattle.bb_compile_buffer.specs.declared.buffer.Buffer.{Buffer}
 use Rattle.bb_compile_buffer.specs.Buffers.{noted, put, with_kinds, declare}
 use Rattle.bb_compile_buffer.specs.Operations.{Made}
@@ -28,11 +29,9 @@ use Rattle.bb_compile_buffer.specs.Atoms.{unit_code}
 use Rattle.bb_compile.specs.Expressions.{expr_code}
 use Rattle.bb_compile.specs.Actions.{effect_noted, let_as, let_code, assign_as, assign_to, assign_code, new_of, new_code, deleted, delete_code, action_code}
 use Rattle.bb_theorem_accepted.proofs.buffers.BufferLemmas.{Clean, with_op, never_noted, put_ok}
-use Rattle.bb_theorem_accepted.proofs.kinds.UnderLemmas.{set_twice, known_within}
 use Rattle.bb_theorem_accepted.proofs.straight.StoreLemmas.{declare_is}
 use Rattle.bb_theorem_accepted.proofs.kinds.KnowLemmas.{aged}
-use Rattle.bb_theorem_accepted.proofs.kinds.MoveLemmas.{Sole, at_same, at_other, one_or_other, struck_at, struck_aged, assigned_as, assigned_aged}
-use Rattle.bb_theorem_accepted.proofs.sparing.FreeLemmas.{frees, frees_taken}
+use Rattle.bb_theorem_accepted.proofs.kinds.MoveLemmas.{Sole, one_or_other, struck_aged, assigned_as, assigned_aged}
 use Rattle.bb_theorem_accepted.proofs.sparing.ScopeLemmas.{Onto, onto_declared, onto_level, Levels, level_same, level_frees}
 use Rattle.bb_theorem_accepted.proofs.sparing.SpareLemmas.{Shape, class_in, class_at, is_first, is_struck, value_in, added_by, action_spares, adds, sole_named}
 use Rattle.bb_theorem_accepted.proofs.sparing.ShapeLemmas.{of, Shaped, Spares, All, shaped_level, spares_set, shaped_set, spares_assigned, spares_struck}
@@ -123,7 +122,7 @@ module _ (schema : Schema) where
           let named : local_of s.scope name ≡ Some local = ap (λ c. local_of c name) (sym same) ∙ at in
           let names : t.scope.names ≡ s.scope.names = ap (λ (x : Buffer). x.scope.names) put_is ∙ ap (λ (c : Scope). c.names) same in
           let kinds_are : t.scope.kinds ≡ set s.scope.kinds local now = ap (λ (x : Buffer). x.scope.kinds) put_is ∙ ap (λ (c : Scope). set c.kinds local now) same in
-          let within = known_within s.scope.kinds local (sole_named s.scope.kinds s.scope.names name local sole named) in
+          let within = taken_within s.scope.kinds local (sole_named s.scope.kinds s.scope.names name local sole named) in
           let becomes_so = assigned_as schema (kind_at u.scope.kinds local) kind now becomes in
           let held : aged (kind_at s.scope.kinds local) ≡ aged now = ap (λ (c : Scope). aged (kind_at c.kinds local)) (sym same) ∙ assigned_aged (kind_at u.scope.kinds local) now becomes_so in
           acts_level s.scope t.scope (other_than s.scope name) sole

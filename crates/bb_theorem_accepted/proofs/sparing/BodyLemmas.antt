@@ -17,9 +17,9 @@ use Rattle.bb_compile_scope.specs.LocalKinds.{is_free, kind_at}
 use Rattle.bb_compile_scope.specs.Scope.{name_of, local_of}
 use Rattle.bb_compile_scope.specs.declared.scope.NamedLocal.{NamedLocal}
 use Rattle.bb_compile_scope.specs.declared.scope.Scope.{Scope}
+use Rattle.bb_compile_scope.proofs.Laws.{struck_at, frees}
 use Rattle.bb_theorem_accepted.proofs.kinds.KnowLemmas.{aged, free_aged}
-use Rattle.bb_theorem_accepted.proofs.kinds.MoveLemmas.{Sole, struck_at, struck_aged}
-use Rattle.bb_theorem_accepted.proofs.sparing.FreeLemmas.{frees}
+use Rattle.bb_theorem_accepted.proofs.kinds.MoveLemmas.{Sole, struck_aged}
 use Rattle.bb_theorem_accepted.proofs.sparing.ScopeLemmas.{onto_level, Levels, level_same, level_left, level_frees, level_on, level_twice}
 use Rattle.bb_theorem_accepted.proofs.sparing.SpareLemmas.{Shape, shape, class_in, class_at, is_first, is_struck, bound_in, sequence_in, added_by, action_spares, statement_spares, other_spares, block_spares, adds, statement_fits, other_fits, block_fits, block_more, first_is}
 use Rattle.bb_theorem_accepted.proofs.sparing.ShapeLemmas.{of, All, spares_on, reveals_on, spares_left, reveals_left, shaped_level, spares_twice, reveals_twice, spares_assigned, reveals_assigned, spares_struck, reveals_struck}

@@ -9,11 +9,11 @@ use Rattle.bb_compile_scope.specs.Kinds.{is_live}
 use Rattle.bb_compile_scope.specs.LocalKinds.{kind_at, kinds_met}
 use Rattle.bb_compile_scope.specs.Scope.{mark_of, back_to}
 use Rattle.bb_compile_scope.specs.declared.scope.Scope.{Scope}
+use Rattle.bb_compile_scope.proofs.Laws.{frees}
 use Rattle.bb_compile_buffer.specs.declared.buffer.Buffer.{Buffer}
 use Rattle.bb_compile.specs.Statements.{statements_code}
 use Rattle.bb_theorem_accepted.proofs.blocks.BranchLemmas.{ElseEnded, ElseOn}
 use Rattle.bb_theorem_accepted.proofs.blocks.GuardLemmas.{Branches, behind_first, branches_absent, branches_else}
-use Rattle.bb_theorem_accepted.proofs.sparing.FreeLemmas.{frees}
 use Rattle.bb_theorem_accepted.proofs.kinds.MoveLemmas.{Sole}
 use Rattle.bb_theorem_accepted.proofs.sparing.ScopeLemmas.{Onto, onto_level, Levels, level_same, level_on, level_left, level_twice, level_mixed, level_frees, Mixed}
 use Rattle.bb_theorem_accepted.proofs.sparing.SpareLemmas.{other_spares, block_spares, other_fits, block_fits}

@@ -27,6 +27,7 @@ use Rattle.bb_compile_scope.specs.Scope.{mark_of, back_to}
 use Rattle.bb_compile_scope.specs.Slots.{link_slot}
 use Rattle.bb_compile_scope.specs.declared.scope.NamedLocal.{NamedLocal}
 use Rattle.bb_compile_scope.specs.declared.scope.Scope.{Scope}
+use Rattle.bb_compile_scope.proofs.Laws.{at_same, at_other, frees, frees_taken}
 use Rattle.bb_compile_buffer.specs.declared.buffer.Buffer.{Buffer}
 use Rattle.bb_compile_buffer.specs.Buffers.{noted, known, put, put_value, asked_query, labelled, leave}
 use Rattle.bb_compile_buffer.specs.Atoms.{unit_code}
@@ -38,8 +39,7 @@ use Rattle.bb_compile.specs.Statements.{at_back, loop_closed}
 use Rattle.bb_theorem_accepted.proofs.buffers.BufferLemmas.{Clean, with_op, never_noted, put_ok}
 use Rattle.bb_theorem_accepted.proofs.buffers.PutLemmas.{pair_ok, unit_ok}
 use Rattle.bb_theorem_accepted.proofs.kinds.KnowLemmas.{aged, Agree}
-use Rattle.bb_theorem_accepted.proofs.kinds.MoveLemmas.{Sole, at_same, at_other, one_or_other}
-use Rattle.bb_theorem_accepted.proofs.sparing.FreeLemmas.{frees, frees_taken}
+use Rattle.bb_theorem_accepted.proofs.kinds.MoveLemmas.{Sole, one_or_other}
 use Rattle.bb_theorem_accepted.proofs.sparing.ScopeLemmas.{Onto, onto_kept, onto_on, onto_level, set_agree, Levels, level_left, level_twice, level_frees}
 use Rattle.bb_theorem_accepted.proofs.sparing.SpareLemmas.{shape, sequence_in, block_spares, block_fits, block_more, shape_agree}
 use Rattle.bb_theorem_accepted.proofs.sparing.ShapeLemmas.{of, Spares, All, spares_on, spares_left, spares_twice, spares_set, shaped_level}

@@ -24,10 +24,10 @@ use Rattle.bb_compile_scope.specs.LocalKinds.{is_free, kind_at}
 use Rattle.bb_compile_scope.specs.Scope.{name_of, local_of, with_name}
 use Rattle.bb_compile_scope.specs.Slots.{link_slot, partner_slot}
 use Rattle.bb_compile_scope.specs.declared.scope.Scope.{Scope}
-use Rattle.bb_theorem_accepted.proofs.kinds.UnderLemmas.{known_within}
+use Rattle.bb_compile_scope.proofs.Laws.{at_same, at_other, struck_at, taken_within, frees, frees_taken}
 use Rattle.bb_theorem_accepted.proofs.kinds.KnowLemmas.{aged, Agree}
-use Rattle.bb_theorem_accepted.proofs.kinds.MoveLemmas.{Sole, at_same, at_other, one_or_other, struck_aged, struck_at, unit_aged}
-use Rattle.bb_theorem_accepted.proofs.sparing.FreeLemmas.{frees, frees_taken, has_free}
+use Rattle.bb_theorem_accepted.proofs.kinds.MoveLemmas.{Sole, one_or_other, struck_aged, unit_aged}
+use Rattle.bb_theorem_accepted.proofs.sparing.FreeLemmas.{has_free}
 use Rattle.bb_theorem_accepted.proofs.sparing.ScopeLemmas.{Onto, onto_kept, onto_same, onto_on, onto_declared, onto_level, Levels, level_frees, level_left}
 use Rattle.bb_theorem_accepted.proofs.sparing.SpareLemmas.{Shape, class_in, value_in, bound_in, sequence_in, class_is}
 use Rattle.bb_theorem_accepted.proofs.sparing.ShapeLemmas.{of, Shaped, Spares, Reveals, Fades, All, fades_on, fades_left, shaped_level, spares_set, reveals_set, fades_set, shaped_set, fades_struck}
@@ -70,7 +70,7 @@ old_agree ks local c is i taken = by_local (one_or_other i local)
   where
     by_local : ((i ≡ local) ⊎ (i ≡ local → ⊥)) → aged (kind_at ks i) ≡ aged (kind_at (set ks local (kinds.Old c)) i)
     by_local (inl e) =
-        let within = known_within ks i taken in
+        let within = taken_within ks i taken in
         let here : kind_at (set ks local (kinds.Old c)) i ≡ kinds.Old c = ap (λ l. kind_at (set ks l (kinds.Old c)) i) (sym e) ∙ at_same ks i (kinds.Old c) within in
         ap (λ l. aged (kind_at ks l)) e ∙ (unit_aged (kind_at ks local) c is ∙ ap aged (sym here))
     by_local (inr apart) = ap aged (sym (at_other ks local i (kinds.Old c) apart))
@@ -80,7 +80,7 @@ old_fades ks local c i taken live = by_local (one_or_other i local)
   where
     by_local : ((i ≡ local) ⊎ (i ≡ local → ⊥)) → is_live (kind_at ks i) ≡ true
     by_local (inl e) =
-        let here : kind_at (set ks local (kinds.Old c)) i ≡ kinds.Old c = ap (λ l. kind_at (set ks l (kinds.Old c)) i) (sym e) ∙ at_same ks i (kinds.Old c) (known_within ks i taken) in
+        let here : kind_at (set ks local (kinds.Old c)) i ≡ kinds.Old c = ap (λ l. kind_at (set ks l (kinds.Old c)) i) (sym e) ∙ at_same ks i (kinds.Old c) (taken_within ks i taken) in
         absurd (let other : true ≡ false = sym live ∙ ap is_live here in cc)
     by_local (inr apart) = sym (ap is_live (at_other ks local i (kinds.Old c) apart)) ∙ live
 
@@ -94,7 +94,7 @@ old_aged ks local c i is = by_local (one_or_other i local)
 
     by_local : ((i ≡ local) ⊎ (i ≡ local → ⊥)) → aged (kind_at ks i) ≡ aged (kind_at (set ks local (kinds.Old c)) i)
     by_local (inl e) =
-        let within = known_within ks local (has_class (kind_at ks local) is) in
+        let within = taken_within ks local (has_class (kind_at ks local) is) in
         ap (λ l. aged (kind_at ks l)) e ∙ (unit_aged (kind_at ks local) c is ∙ ap aged (sym (ap (kind_at (set ks local (kinds.Old c))) e ∙ at_same ks local (kinds.Old c) within)))
     by_local (inr apart) = ap aged (sym (at_other ks local i (kinds.Old c) apart))
 

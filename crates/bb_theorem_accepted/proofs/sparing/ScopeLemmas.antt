@@ -11,9 +11,10 @@ use Rattle.bb_compile_scope.specs.LocalKinds.{is_free, kind_at, left_kind, met_k
 use Rattle.bb_compile_scope.specs.Scope.{mark_of, back_to}
 use Rattle.bb_compile_scope.specs.declared.scope.NamedLocal.{NamedLocal}
 use Rattle.bb_compile_scope.specs.declared.scope.Scope.{Scope}
+use Rattle.bb_compile_scope.proofs.Laws.{at_same, at_other, free_first, frees, frees_same, length_paired, met_free}
 use Rattle.bb_theorem_accepted.proofs.kinds.KnowLemmas.{aged, Agree, taken_on, agree_on, agree_left}
-use Rattle.bb_theorem_accepted.proofs.kinds.MoveLemmas.{Sole, sole_agree, sole_more, at_same, at_other, free_first}
-use Rattle.bb_theorem_accepted.proofs.sparing.FreeLemmas.{frees, frees_same, length_paired, left_free, met_is}
+use Rattle.bb_theorem_accepted.proofs.kinds.MoveLemmas.{Sole, sole_agree, sole_more}
+use Rattle.bb_theorem_accepted.proofs.sparing.FreeLemmas.{left_free, met_is}
 
 -- ---- one scope comes of another
 
@@ -116,13 +117,6 @@ level_twice a b c first then =
 -- what locals hold behind one of two branches, or where both meet
 abbrev pub Mixed : (one other now : List Kind) → Type 0
 Mixed one other now = (now ≡ one) ⊎ ((now ≡ other) ⊎ (now ≡ kinds_met one other))
-
-met_free : (k l : Kind) (b : Bool) → is_free k ≡ b → is_free l ≡ b → is_free (met_kind k l) ≡ b
-met_free k l b one other = by_live (is_live l)
-  where
-    by_live : (live : Bool) → is_free (cond live k l) ≡ b
-    by_live true = one
-    by_live false = other
 
 met_aged : (k l m : Kind) → aged m ≡ aged k → aged m ≡ aged l → aged m ≡ aged (met_kind k l)
 met_aged k l m one other = by_live (is_live l)

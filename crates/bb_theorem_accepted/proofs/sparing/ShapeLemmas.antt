@@ -1,5 +1,5 @@
 -- What one statement, or what stands behind another, does to the names and classes in scope, and which names it spares.
-use Rattle.std.proofs.Common.{◌≡◌, ◌⊎◌, inl, inr, ℕ, zero, suc, ◌<◌, Bool, true, false, cond, ◌&&◌, not, List, [], ◌∷◌, ◌++◌, length, map, Some, refl, sym, ap, ◌∙◌, arith}
+use Rattle.std.proofs.Common.{◌≡◌, ◌⊎◌, inl, inr, ℕ, Bool, true, false, cond, ◌&&◌, not, List, [], ◌∷◌, ◌++◌, map, Some, refl, sym, ap, ◌∙◌}
 use Rattle.std.specs.Prelude.{set, position, slice_get}
 use Rattle.bb_basis.proofs.BoolLemmas.{and_first, and_second}
 use Rattle.bb_basis.proofs.PositionLemmas.{position_within}
@@ -13,9 +13,10 @@ use Rattle.bb_compile_scope.specs.LocalKinds.{is_free, kind_at, met_kind}
 use Rattle.bb_compile_scope.specs.Scope.{mark_of, back_to, local_of}
 use Rattle.bb_compile_scope.specs.declared.scope.NamedLocal.{NamedLocal}
 use Rattle.bb_compile_scope.specs.declared.scope.Scope.{Scope}
+use Rattle.bb_compile_scope.proofs.Laws.{at_same, at_other, free_first, struck_at, taken_within}
 use Rattle.bb_theorem_accepted.proofs.buffers.BufferLemmas.{front}
 use Rattle.bb_theorem_accepted.proofs.kinds.KnowLemmas.{aged, Agree, taken_on, left_here}
-use Rattle.bb_theorem_accepted.proofs.kinds.MoveLemmas.{Sole, at_same, at_other, free_first, struck_at}
+use Rattle.bb_theorem_accepted.proofs.kinds.MoveLemmas.{Sole}
 use Rattle.bb_theorem_accepted.proofs.sparing.FreeLemmas.{met_is}
 use Rattle.bb_theorem_accepted.proofs.sparing.ScopeLemmas.{Onto, Levels, Mixed}
 use Rattle.bb_theorem_accepted.proofs.sparing.SpareLemmas.{Shape, shape, class_at, is_first, is_struck, shape_agree, shape_more, class_at_is, sole_taken, first_is}
@@ -156,11 +157,6 @@ module _ (a b : Scope) (name : List ℕ) (local : ℕ) (now : Kind) (sole : Sole
           let within = sole_taken a.kinds a.names j n sole at in
           let here : kind_at b.kinds n.local ≡ now = ap (λ ks. kind_at ks n.local) kinds_are ∙ (ap (λ i. kind_at (set a.kinds i now) n.local) (sym own.1) ∙ at_same a.kinds n.local now (taken_within a.kinds n.local within)) in
           absurd (let no : true ≡ false = sym live ∙ (ap is_live here ∙ dead) in cc)
-        where
-          taken_within : (ks : List Kind) (i : ℕ) → is_free (kind_at ks i) ≡ false → i < length ks
-          taken_within [] i taken = absurd cc
-          taken_within (k ∷ ks) zero taken = omega arith
-          taken_within (k ∷ ks) (suc i) taken = let lt = taken_within ks i taken in omega (arith, lt)
       by_name (inr other) = (sym (ap (λ ks. is_live (kind_at ks n.local)) kinds_are ∙ ap is_live (at_other a.kinds local n.local now other.1)) ∙ live, is_not (is_first (of a) name j) other.0)
 
 -- ---- units that may be deleted

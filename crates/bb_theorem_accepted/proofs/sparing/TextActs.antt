@@ -16,6 +16,7 @@ use Rattle.bb_compile_scope.specs.Killed.{unless_fault, bound_name}
 use Rattle.bb_compile_scope.specs.Scope.{name_of}
 use Rattle.bb_compile_scope.specs.Slots.{partner_slot}
 use Rattle.bb_compile_scope.specs.declared.scope.Scope.{Scope}
+use Rattle.bb_compile_scope.proofs.Laws.{frees}
 use Rattle.bb_compile_buffer.specs.declared.buffer.Buffer.{Buffer}
 use Rattle.bb_compile_buffer.specs.Buffers.{declare}
 use Rattle.bb_compile_buffer.specs.Atoms.{variable_code, unit_code}
@@ -29,7 +30,6 @@ use Rattle.bb_theorem_accepted.proofs.blocks.HeadLemmas.{HeadLaid, binding_laid}
 use Rattle.bb_theorem_accepted.proofs.blocks.GuardLemmas.{test_guard, tested_puts, head_scope, if_branches, with_branches}
 use Rattle.bb_theorem_accepted.proofs.straight.StoreLemmas.{declare_is}
 use Rattle.bb_theorem_accepted.proofs.blocks.BlockLemmas.{stated}
-use Rattle.bb_theorem_accepted.proofs.sparing.FreeLemmas.{frees}
 use Rattle.bb_theorem_accepted.proofs.kinds.MoveLemmas.{Sole}
 use Rattle.bb_theorem_accepted.proofs.sparing.ScopeLemmas.{onto_same, onto_on}
 use Rattle.bb_theorem_accepted.proofs.sparing.SpareLemmas.{class_in, bound_in, sequence_in, added_by, statement_spares, other_spares, block_spares, adds, statement_fits, other_fits, block_fits, block_more}

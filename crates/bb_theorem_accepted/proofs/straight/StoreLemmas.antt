@@ -23,6 +23,7 @@ use Rattle.bb_compile_scope.specs.declared.scope.Scope.{Scope}
 use Rattle.bb_compile_scope.specs.Kinds.{assigned}
 use Rattle.bb_compile_scope.specs.LocalKinds.{is_free, kind_at}
 use Rattle.bb_compile_scope.specs.Scope.{with_name, local_of}
+use Rattle.bb_compile_scope.proofs.Laws.{at_same, at_other, taken_within, set_twice}
 use Rattle.bb_compile_buffer.specs.declared.buffer.Buffer.{Buffer}
 use Rattle.bb_compile_buffer.specs.Buffers.{noted, put, with_kinds, taken, take_local, declare}
 use Rattle.bb_compile_buffer.specs.Operations.{Made}
@@ -35,7 +36,7 @@ use Rattle.bb_verify.specs.Frame.{with_stack, with_local, pop, push}
 use Rattle.bb_verify.specs.Effect.{effect, on, store_local, new_unit}
 use Rattle.bb_verify.specs.Tables.{in_tables, known_kind}
 use Rattle.bb_theorem_accepted.proofs.buffers.StraightLemmas.{Gives, Leads, Runs, leads_on}
-use Rattle.bb_theorem_accepted.proofs.kinds.UnderLemmas.{IsUnder, AreKnown, descends_same, under_assigned, under_known, known_set, known_more, known_named, known_within, set_here, set_twice}
+use Rattle.bb_theorem_accepted.proofs.kinds.UnderLemmas.{IsUnder, AreKnown, descends_same, under_assigned, under_known, known_set, known_more, known_named, set_here}
 use Rattle.bb_theorem_accepted.proofs.buffers.BufferLemmas.{Clean, Grown, Has, with_op, never_noted, put_ok, grown_on, has_before}
 use Rattle.bb_theorem_accepted.proofs.buffers.PutLemmas.{pair_ok}
 use Rattle.bb_theorem_accepted.proofs.kinds.KnowLemmas.{is_sequence, HasSequences, under_value}
@@ -44,7 +45,7 @@ use Rattle.bb_theorem_accepted.proofs.buffers.EffectLemmas.{push_on}
 use Rattle.bb_theorem_accepted.proofs.straight.PatternLemmas.{AreSmall, room_on}
 use Rattle.bb_theorem_accepted.proofs.straight.ExprLemmas.{expr_lays, class_there}
 use Rattle.bb_theorem_accepted.proofs.kinds.ValueLemmas.{IsGood, local_good, made_good}
-use Rattle.bb_theorem_accepted.proofs.kinds.MoveLemmas.{Tidy, Moves, at_same, at_other, one_or_other, last_some, moves_same, moves_on, declared_moves, assigned_moves}
+use Rattle.bb_theorem_accepted.proofs.kinds.MoveLemmas.{Tidy, Moves, one_or_other, last_some, moves_same, moves_on, declared_moves, assigned_moves}
 
 -- a buffer but for what statements put on it
 abbrev pub marks : Buffer → Buffer
@@ -244,7 +245,7 @@ module _ (schema : Schema) (sf : schemas.Fits schema) (part : Part) (code : Code
           let named = known_named schema sf f.locals u.scope.kinds name local u.scope.names known.1 at in
           let kind_is : m.kind ≡ kind = (let e = m.made_is in cc) in
           let own = under_assigned schema sf k (kind_at u.scope.kinds local) kind now (subst (IsUnder schema sf k) kind_is under) becomes in
-          let within = known_within u.scope.kinds local (under_known schema sf (kind_at f.locals local) (kind_at u.scope.kinds local) named.1) in
+          let within = taken_within u.scope.kinds local (under_known schema sf (kind_at f.locals local) (kind_at u.scope.kinds local) named.1) in
           (named.0, known_set schema sf f.locals u.scope.kinds u.scope.names local k now named.0 within own known.1, set_sequences f.locals u.scope.kinds local k now within (under_value schema sf k now own) known.2))
 
       by_local : (made : Made) (u : Buffer) (o : Option ℕ) → local_of u.scope name ≡ o → expr_code schema STACK_LIMIT e s ≡ Ok (made, u) → assign_to schema o made u ≡ Ok t → Does false s t

@@ -27,6 +27,7 @@ use Rattle.bb_compile_scope.specs.declared.fault.TextFlaw.TheVariants.{Unknown, 
 use Rattle.bb_compile_scope.specs.Kinds.{class_of, is_live}
 use Rattle.bb_compile_scope.specs.LocalKinds.{kind_at}
 use Rattle.bb_compile_scope.specs.Slots as slots
+use Rattle.bb_compile_scope.proofs.Laws.{struck_at}
 use Rattle.bb_compile_buffer.specs.declared.buffer.Buffer.{Buffer}
 use Rattle.bb_compile_buffer.specs.Buffers.{noted, due, known, put, with_kinds}
 use Rattle.bb_compile_buffer.specs.Operations.{Made}
@@ -42,7 +43,7 @@ use Rattle.bb_verify.specs.Effect.{effect, set_slot, relink, enter, leave, after
 use Rattle.bb_verify.specs.Tables.{in_tables}
 use Rattle.bb_theorem_accepted.proofs.buffers.StraightLemmas.{Gives, Leads, leads_on}
 use Rattle.bb_theorem_accepted.proofs.kinds.UnderLemmas.{IsUnder, AreKnown, descends_on, is_due, under_class, known_struck}
-use Rattle.bb_theorem_accepted.proofs.buffers.BufferLemmas.{Clean, Grown, Has, with_op, passed, never_noted, put_ok, put_clean, grown_op, grown_on, has_before}
+use Rattle.bb_theorem_accepted.proofs.buffers.BufferLemmas.{Clean, Grown, Has, with_op, passed, never_noted, put_ok, grown_op, grown_on, has_before}
 use Rattle.bb_theorem_accepted.proofs.buffers.BufferLemmas as buffers
 use Rattle.bb_theorem_accepted.proofs.buffers.PutLemmas.{clean_before, due_kind}
 use Rattle.bb_theorem_accepted.proofs.kinds.HeldLemmas.{value_below, link_below}
@@ -52,7 +53,7 @@ use Rattle.bb_theorem_accepted.proofs.straight.PatternLemmas.{AreSmall}
 use Rattle.bb_theorem_accepted.proofs.straight.ExprLemmas.{expr_lays, space_there}
 use Rattle.bb_theorem_accepted.proofs.straight.StoreLemmas.{Does, marks, marks_same, all_room}
 use Rattle.bb_theorem_accepted.proofs.kinds.KnowLemmas.{HasSequences}
-use Rattle.bb_theorem_accepted.proofs.kinds.MoveLemmas.{struck_at, last_some, moves_same, struck_moves}
+use Rattle.bb_theorem_accepted.proofs.kinds.MoveLemmas.{last_some, moves_same, struck_moves}
 
 module _ (schema : Schema) (sf : schemas.Fits schema) (part : Part) (code : Code) (small : AreSmall schema sf part code) where
   abbrev DoesHere : Buffer → Buffer → Type 0

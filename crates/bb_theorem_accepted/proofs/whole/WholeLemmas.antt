@@ -16,6 +16,7 @@ use Rattle.bb_compile_scope.specs.LocalKinds.{is_free, kind_at, all_free}
 use Rattle.bb_compile_scope.specs.Place.{Place}
 use Rattle.bb_compile_scope.specs.declared.scope.Scope.{Scope}
 use Rattle.bb_compile_scope.specs.Scope.{of_unit, of_event, begin_with}
+use Rattle.bb_compile_scope.proofs.Laws.{at_other}
 use Rattle.bb_compile_buffer.specs.Finish.{empty_buffer, frames_of as declared_of}
 use Rattle.bb_verify.specs.Each.{each}
 use Rattle.bb_verify.specs.Flaws.{fault_at}
@@ -35,7 +36,7 @@ use Rattle.bb_theorem_accepted.proofs.kinds.UnderLemmas.{descends_same}
 use Rattle.bb_theorem_accepted.proofs.kinds.KnowLemmas.{HasLocal, AllTaken, HasSequences}
 use Rattle.bb_theorem_accepted.proofs.kinds.LabelLemmas.{listed, label_at, found, AllLabels, AreKinds, Rises, rises_up, all_frames, rise_passes, frames_pass}
 use Rattle.bb_theorem_accepted.proofs.kinds.ValueLemmas.{IsFit}
-use Rattle.bb_theorem_accepted.proofs.kinds.MoveLemmas.{Tidy, Sole, one_or_other, at_other}
+use Rattle.bb_theorem_accepted.proofs.kinds.MoveLemmas.{Tidy, Sole, one_or_other}
 use Rattle.bb_theorem_accepted.proofs.walks.WalkLemmas.{Walks, walked_frames, visited, fine_at, At}
 use Rattle.bb_theorem_accepted.proofs.walks.JoinLemmas.{Sound}
 

@@ -29,6 +29,7 @@ use Rattle.bb_compile_scope.specs.declared.fault.CompileFault.{CompileFault}
 use Rattle.bb_compile_scope.specs.declared.fault.TextFlaw.{TextFlaw}
 use Rattle.bb_compile_scope.specs.declared.fault.TextFlaw.TheVariants.{Unknown, Kind as WrongKind, LinkClass, Space, Effect, NoEnd, Limit}
 use Rattle.bb_compile_scope.specs.declared.scope.Scope.{Scope}
+use Rattle.bb_compile_scope.proofs.Laws.{frees}
 use Rattle.bb_compile_buffer.specs.declared.buffer.Buffer.{Buffer}
 use Rattle.bb_compile_buffer.specs.Atoms.{unit_code}
 use Rattle.bb_compile_buffer.specs.Buffers.{noted, due, known, put, with_kinds, taken, take_local, declare}
@@ -46,7 +47,7 @@ use Rattle.bb_theorem_judged.proofs.scopes.HoldLemmas.{Keeps, noted_unless, put_
 use Rattle.bb_theorem_judged.proofs.scopes.HoldLemmas as judged
 use Rattle.bb_theorem_judged.proofs.laying.LayLemmas.{Counts, counts_same, unless_counts, due_counts, known_counts}
 use Rattle.bb_theorem_judged.proofs.scopes.LocalLemmas.{frees_some}
-use Rattle.bb_theorem_judged.proofs.scopes.NameLemmas.{frees, names_of}
+use Rattle.bb_theorem_judged.proofs.scopes.NameLemmas.{names_of}
 
 same_counts : (s t : Buffer) → t.ops ≡ s.ops → t.texts ≡ s.texts → t.queries ≡ s.queries → t.loops ≡ s.loops → Counts s t
 same_counts s t o x q l = record { ops_are = subst (λ y. length y ≡ length s.ops) (sym o) refl; texts_are = x; queries_are = subst (λ y. length y ≡ length s.queries) (sym q) refl; loops_are = subst (λ y. length y ≡ length s.loops) (sym l) refl }

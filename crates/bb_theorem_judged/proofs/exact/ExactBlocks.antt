@@ -17,6 +17,7 @@ use Rattle.bb_compile_scope.specs.Place.{Place}
 use Rattle.bb_compile_scope.specs.Scope.{mark_of}
 use Rattle.bb_compile_scope.specs.declared.fault.TextFlaw.TheVariants.{NoEnd, Limit}
 use Rattle.bb_compile_scope.specs.declared.scope.Scope.{Scope}
+use Rattle.bb_compile_scope.proofs.Laws.{frees}
 use Rattle.bb_compile_buffer.specs.declared.buffer.Buffer.{Buffer}
 use Rattle.bb_compile_buffer.specs.Buffers.{labelled, leave}
 use Rattle.bb_compile.specs.declared.exits.Exits.{Exits}
@@ -44,7 +45,7 @@ use Rattle.bb_theorem_judged.proofs.laying.LayLemmas.{counts_on, if_counts}
 use Rattle.bb_theorem_judged.proofs.laying.LayLoops.{leave_counts, label_counts, absent_counts, else_counts}
 use Rattle.bb_theorem_judged.proofs.faults.LoopLemmas.{IsFor, for_agrees, IsBegun, begun_holds}
 use Rattle.bb_theorem_judged.proofs.scopes.MoveLemmas.{Moves, stay_moves}
-use Rattle.bb_theorem_judged.proofs.scopes.NameLemmas.{frees, names_of}
+use Rattle.bb_theorem_judged.proofs.scopes.NameLemmas.{names_of}
 use Rattle.bb_theorem_judged.proofs.scopes.ScopeLemmas.{Tidy}
 
 -- there is room for the names of a block, and of what comes after a first block

@@ -21,6 +21,7 @@ use Rattle.bb_compile_scope.specs.declared.fault.CompileFault.TheVariants.{At}
 use Rattle.bb_compile_scope.specs.declared.fault.TextFlaw.{TextFlaw}
 use Rattle.bb_compile_scope.specs.declared.fault.TextFlaw.TheVariants.{Unknown, Kind as WrongKind, Limit}
 use Rattle.bb_compile_scope.specs.declared.scope.Scope.{Scope}
+use Rattle.bb_compile_scope.proofs.Laws.{frees}
 use Rattle.bb_compile_buffer.specs.declared.buffer.Buffer.{Buffer}
 use Rattle.bb_compile_buffer.specs.Atoms.{variable_code, unit_code}
 use Rattle.bb_compile_buffer.specs.Buffers.{noted, due, known, put, take_local, declare}
@@ -44,7 +45,7 @@ use Rattle.bb_theorem_judged.proofs.within.FineLemmas.{Clean, Anything, itself, 
 use Rattle.bb_theorem_judged.proofs.scopes.HoldLemmas.{Keeps, noted_if, put_keeps, known_keeps}
 use Rattle.bb_theorem_judged.proofs.scopes.HoldLemmas as judged
 use Rattle.bb_theorem_judged.proofs.laying.LayLemmas.{if_counts, due_counts, known_counts}
-use Rattle.bb_theorem_judged.proofs.scopes.NameLemmas.{frees, names_of}
+use Rattle.bb_theorem_judged.proofs.scopes.NameLemmas.{names_of}
 use Rattle.bb_theorem_judged.proofs.scopes.ScopeLemmas.{Tidy}
 
 module _ (schema : Schema) (place : Place) (scope : Scope) where

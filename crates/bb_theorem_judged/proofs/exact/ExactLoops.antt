@@ -15,6 +15,7 @@ use Rattle.bb_compile_scope.specs.declared.fault.CompileFault.{CompileFault}
 use Rattle.bb_compile_scope.specs.declared.fault.CompileFault.TheVariants.{At}
 use Rattle.bb_compile_scope.specs.declared.fault.TextFlaw.TheVariants.{Limit}
 use Rattle.bb_compile_scope.specs.declared.scope.Scope.{Scope}
+use Rattle.bb_compile_scope.proofs.Laws.{frees}
 use Rattle.bb_compile_buffer.specs.declared.buffer.Buffer.{Buffer}
 use Rattle.bb_compile_buffer.specs.Buffers.{put, aim, begun_loop, labelled, with_kinds, leave, declare, met}
 use Rattle.bb_compile.specs.declared.branches.Branch.{Branch}
@@ -29,7 +30,6 @@ use Rattle.bb_theorem_judged.proofs.within.FineLemmas.{Clean, Anything, itself, 
 use Rattle.bb_theorem_judged.proofs.scopes.HoldLemmas.{Holds, Keeps, put_keeps}
 use Rattle.bb_theorem_judged.proofs.laying.LayLemmas.{Counts, counts_on}
 use Rattle.bb_theorem_judged.proofs.laying.LayLoops.{exits_counts, label_counts, kinds_counts, closed_counts}
-use Rattle.bb_theorem_judged.proofs.scopes.NameLemmas.{frees}
 
 -- ---- flaws stay
 

@@ -30,6 +30,7 @@ use Rattle.bb_compile_scope.specs.declared.fault.CompileFault.{CompileFault}
 use Rattle.bb_compile_scope.specs.declared.fault.TextFlaw.{TextFlaw}
 use Rattle.bb_compile_scope.specs.declared.fault.TextFlaw.TheVariants.{Unknown, Kind as WrongKind, LinkClass, Space, Effect, NoEnd, Limit}
 use Rattle.bb_compile_scope.specs.declared.scope.Scope.{Scope}
+use Rattle.bb_compile_scope.proofs.Laws.{frees}
 use Rattle.bb_compile_buffer.specs.declared.buffer.Buffer.{Buffer}
 use Rattle.bb_compile_buffer.specs.Atoms.{unit_code}
 use Rattle.bb_compile_buffer.specs.Buffers.{noted, due, known, put, with_kinds, taken, take_local, declare}
@@ -43,7 +44,7 @@ use Rattle.bb_theorem_judged.proofs.scopes.HoldLemmas.{Holds, Keeps, Made, noted
 use Rattle.bb_theorem_judged.proofs.laying.LayExprs.{unit_lays, expr_lays}
 use Rattle.bb_theorem_judged.proofs.laying.LayLemmas.{Lays, room_first, room_rest, laid_on, lays_then, lays_last, adds_none, Counts, counts_same, lays_from, adds_to, adds_noted, noted_counts, unless_counts, due_counts, known_counts, itself, second, put_lays}
 use Rattle.bb_theorem_judged.proofs.scopes.LocalLemmas.{none_free}
-use Rattle.bb_theorem_judged.proofs.scopes.NameLemmas.{frees, names_of}
+use Rattle.bb_theorem_judged.proofs.scopes.NameLemmas.{names_of}
 
 -- ---- names
 

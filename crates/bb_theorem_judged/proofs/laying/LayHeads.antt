@@ -23,6 +23,7 @@ use Rattle.bb_compile_scope.specs.declared.fault.CompileFault.TheVariants.{At}
 use Rattle.bb_compile_scope.specs.declared.fault.TextFlaw.{TextFlaw}
 use Rattle.bb_compile_scope.specs.declared.fault.TextFlaw.TheVariants.{Unknown, Kind as WrongKind, Limit}
 use Rattle.bb_compile_scope.specs.declared.scope.Scope.{Scope}
+use Rattle.bb_compile_scope.proofs.Laws.{frees}
 use Rattle.bb_compile_buffer.specs.declared.buffer.Buffer.{Buffer}
 use Rattle.bb_compile_buffer.specs.Atoms.{unit_code, variable_code}
 use Rattle.bb_compile_buffer.specs.Buffers.{noted, due, known, put, taken, take_local, declare}
@@ -47,7 +48,7 @@ use Rattle.bb_theorem_judged.proofs.laying.LayActions.{declare_lays, lays_knowin
 use Rattle.bb_theorem_judged.proofs.laying.LayExprs.{variable_lays, unit_lays, expr_lays, sequence_lays}
 use Rattle.bb_theorem_judged.proofs.laying.LayLemmas.{Laid, Lays, lays_then, lays_last, adds_none, Counts, lays_from, adds_noted, noted_counts, if_counts, due_counts, known_counts, itself, second, put_lays}
 use Rattle.bb_theorem_judged.proofs.scopes.LocalLemmas.{none_free}
-use Rattle.bb_theorem_judged.proofs.scopes.NameLemmas.{frees, names_of}
+use Rattle.bb_theorem_judged.proofs.scopes.NameLemmas.{names_of}
 use Rattle.bb_theorem_judged.proofs.scopes.ScopeLemmas.{Tidy}
 
 -- ---- `if`

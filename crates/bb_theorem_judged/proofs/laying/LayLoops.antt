@@ -20,6 +20,7 @@ use Rattle.bb_compile_scope.specs.declared.fault.CompileFault.TheVariants.{At}
 use Rattle.bb_compile_scope.specs.declared.fault.TextFlaw.TheVariants.{Limit}
 use Rattle.bb_compile_scope.specs.declared.scope.Mark.{Mark}
 use Rattle.bb_compile_scope.specs.declared.scope.Scope.{Scope}
+use Rattle.bb_compile_scope.proofs.Laws.{frees}
 use Rattle.bb_compile_buffer.specs.declared.buffer.Buffer.{Buffer}
 use Rattle.bb_compile_buffer.specs.Buffers.{put, aimed, with_aimed, aimed_at, aim, begun_loop, with_end, ended_at, labelled, with_kinds, leave, declare, met}
 use Rattle.bb_compile.specs.declared.branches.Branch.{Branch}
@@ -31,7 +32,6 @@ use Rattle.bb_theorem_judged.specs.Sums.{plus, ops, one_loop}
 use Rattle.bb_theorem_judged.proofs.scopes.HoldLemmas.{Holds, Keeps, put_keeps}
 use Rattle.bb_theorem_judged.proofs.laying.LayActions.{declare_lays, lays_knowing}
 use Rattle.bb_theorem_judged.proofs.laying.LayLemmas.{Lays, lays_last, adds_none, Counts, counts_same, counts_on, lays_from, adds_to, itself, second, put_lays, loop_lays}
-use Rattle.bb_theorem_judged.proofs.scopes.NameLemmas.{frees}
 
 -- ---- what changes no count
 

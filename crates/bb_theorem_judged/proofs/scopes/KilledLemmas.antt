@@ -25,13 +25,14 @@ use Rattle.bb_compile_scope.specs.LocalKinds.{is_free, kind_at}
 use Rattle.bb_compile_scope.specs.Scope.{name_of, local_of, mark_of, back_to}
 use Rattle.bb_compile_scope.specs.Slots.{link_slot, partner_slot}
 use Rattle.bb_compile_scope.specs.declared.scope.Scope.{Scope}
+use Rattle.bb_compile_scope.proofs.Laws.{frees}
 use Rattle.bb_theorem_judged.specs.Actions.{after_delete}
 use Rattle.bb_theorem_judged.specs.Expressions.{sequence_class}
 use Rattle.bb_theorem_judged.specs.Killed.{declared, value_class, bound_class, killed_as, killed_name, killed_action, killed_statement, killed_otherwise, killed_statements, at_start}
 use Rattle.bb_theorem_judged.specs.Names.{Names, unit_class, with_named}
 use Rattle.bb_theorem_judged.specs.Names as judged
 use Rattle.bb_theorem_judged.proofs.scopes.LocalLemmas.{none_free, frees_some}
-use Rattle.bb_theorem_judged.proofs.scopes.NameLemmas.{frees, names_of, kind_same}
+use Rattle.bb_theorem_judged.proofs.scopes.NameLemmas.{names_of, kind_same}
 use Rattle.bb_theorem_judged.proofs.scopes.ScopeLemmas.{Tidy, Onto, onto_same, onto_level, onto_on, onto_declared, names_declared, name_taken, names_assigned, level_assigned, names_struck, level_struck, level_left, names_left, level_twice, names_twice}
 
 -- a scope comes of another, with these names

@@ -17,6 +17,7 @@ use Rattle.bb_compile_scope.specs.declared.fault.CompileFault.TheVariants.{At}
 use Rattle.bb_compile_scope.specs.declared.fault.TextFlaw.{TextFlaw}
 use Rattle.bb_compile_scope.specs.declared.fault.TextFlaw.TheVariants.{Unknown, Kind as WrongKind, Limit}
 use Rattle.bb_compile_scope.specs.declared.scope.Scope.{Scope}
+use Rattle.bb_compile_scope.proofs.Laws.{set_twice}
 use Rattle.bb_compile_buffer.specs.declared.buffer.Buffer.{Buffer}
 use Rattle.bb_compile_buffer.specs.Buffers.{noted, put, taken, take_local, declare}
 use Rattle.bb_compile.specs.Actions.{let_as, assign_as, assign_to, new_of, deleted}
@@ -25,7 +26,6 @@ use Rattle.bb_theorem_judged.specs.Flaws.{least, unless, if_unknown}
 use Rattle.bb_theorem_judged.specs.Names.{Names, with_named, with_unit}
 use Rattle.bb_theorem_judged.proofs.scopes.HoldLemmas.{Holds, Keeps, noted_flaw, holds_then, put_keeps}
 use Rattle.bb_theorem_judged.proofs.scopes.KindLemmas.{IsHeld, assigned_held}
-use Rattle.bb_theorem_judged.proofs.scopes.LocalLemmas.{set_twice}
 use Rattle.bb_theorem_judged.proofs.scopes.NameLemmas.{names_of}
 use Rattle.bb_theorem_judged.proofs.scopes.ScopeLemmas.{Tidy, Onto, onto_same, onto_level, names_put, onto_declared, names_declared, name_taken, names_assigned, level_assigned, names_struck, level_struck}
 

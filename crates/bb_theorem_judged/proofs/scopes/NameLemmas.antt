@@ -1,18 +1,14 @@
 -- The names of a scope, with what they hold.
-use Rattle.std.proofs.Common.{◌≡◌, ℕ, suc, Bool, true, false, cond, List, [], ◌∷◌, map, Some, refl}
+use Rattle.std.proofs.Common.{◌≡◌, ℕ, Bool, true, false, cond, List, [], ◌∷◌, map, Some, refl}
 use Rattle.std.specs.Prelude.{find, option_map}
 use Rattle.std.specs.Str.{bytes_eq}
 use Rattle.bb_verify_effect.specs.Kind.{Kind}
-use Rattle.bb_compile_scope.specs.LocalKinds.{is_free, kind_at}
+use Rattle.bb_compile_scope.specs.LocalKinds.{kind_at}
 use Rattle.bb_compile_scope.specs.Scope.{local_of}
 use Rattle.bb_compile_scope.specs.declared.scope.NamedLocal.{NamedLocal}
 use Rattle.bb_compile_scope.specs.declared.scope.Scope.{Scope}
+use Rattle.bb_compile_scope.proofs.Laws.{frees}
 use Rattle.bb_theorem_judged.specs.Names.{Named, Names, kind_named}
-
--- how many locals are free
-abbrev pub frees : List Kind → ℕ
-frees [] = 0
-frees (k ∷ ks) = cond (is_free k) (suc (frees ks)) (frees ks)
 
 -- the names of a scope, without their locals
 abbrev pub named_in : List Kind → NamedLocal → Named

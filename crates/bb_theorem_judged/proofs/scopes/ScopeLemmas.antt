@@ -10,15 +10,15 @@ use Rattle.bb_verify_effect.specs.Kind.{Kind}
 use Rattle.bb_verify_effect.specs.Kind.TheVariants as kinds
 use Rattle.bb_verify_effect.specs.Kinds.{struck}
 use Rattle.bb_verify_effect.specs.Schema.{Schema}
-use Rattle.bb_compile_scope.specs.Kinds.{is_live}
 use Rattle.bb_compile_scope.specs.LocalKinds.{is_free, kind_at, left_kind, kinds_left, met_kind, kinds_met}
 use Rattle.bb_compile_scope.specs.Scope.{local_of, mark_of, back_to}
 use Rattle.bb_compile_scope.specs.declared.scope.NamedLocal.{NamedLocal}
 use Rattle.bb_compile_scope.specs.declared.scope.Scope.{Scope}
+use Rattle.bb_compile_scope.proofs.Laws.{at_same, at_other, free_first, taken_within, frees_same, struck_at, length_paired, frees, met_free}
 use Rattle.bb_theorem_judged.specs.Names.{Named, Names, with_named, held_with, with_kind, struck_name, struck_names, holding, held_met, names_met}
 use Rattle.bb_theorem_judged.specs.Names as judged
-use Rattle.bb_theorem_judged.proofs.scopes.LocalLemmas.{at_same, at_other, free_first, taken_within, frees_same, frees_taken, frees_kept, struck_free, struck_at, length_struck, length_paired, paired_at}
-use Rattle.bb_theorem_judged.proofs.scopes.NameLemmas.{frees, named_in, names_of}
+use Rattle.bb_theorem_judged.proofs.scopes.LocalLemmas.{frees_fewer, frees_kept, struck_free, length_struck, paired_at}
+use Rattle.bb_theorem_judged.proofs.scopes.NameLemmas.{named_in, names_of}
 
 -- ---- tidy scopes
 
@@ -162,7 +162,7 @@ onto_declared a b name local kind first held names kinds_are tidy = record {
 pub names_declared : (a : Scope) (name : List ℕ) (local : ℕ) (kind : Kind) → position is_free a.kinds ≡ Some local → is_free kind ≡ false → Tidy a
     → names_of (record { names = a.names ++ record { name = name; local = local } ∷ []; kinds = set a.kinds local kind }) ≡ with_named name kind (names_of a)
 names_declared a name local kind first held tidy =
-    names_eq _ _ _ _ (held_more a.kinds local kind name a.names (position_within is_free a.kinds local first) (free_elsewhere a.kinds a.names local (free_first a.kinds local first) tidy.taken)) (frees_taken a.kinds local kind first held)
+    names_eq _ _ _ _ (held_more a.kinds local kind name a.names (position_within is_free a.kinds local first) (free_elsewhere a.kinds a.names local (free_first a.kinds local first) tidy.taken)) (frees_fewer a.kinds local kind first held)
 
 -- a loop takes the lowest free local for its sequence
 pub onto_holding : (a b : Scope) (local : ℕ) (kind : Kind) → position is_free a.kinds ≡ Some local → b.names ≡ a.names → b.kinds ≡ set a.kinds local kind → Tidy a → Onto a b
@@ -171,7 +171,7 @@ onto_holding a b local kind first names kinds_are tidy =
 
 pub names_holding : (a : Scope) (local : ℕ) (kind : Kind) → position is_free a.kinds ≡ Some local → is_free kind ≡ false → Tidy a → names_of (record { names = a.names; kinds = set a.kinds local kind }) ≡ holding (names_of a)
 names_holding a local kind first held tidy =
-    names_eq _ _ _ _ (held_other a.kinds local kind a.names (free_elsewhere a.kinds a.names local (free_first a.kinds local first) tidy.taken)) (frees_taken a.kinds local kind first held)
+    names_eq _ _ _ _ (held_other a.kinds local kind a.names (free_elsewhere a.kinds a.names local (free_first a.kinds local first) tidy.taken)) (frees_fewer a.kinds local kind first held)
 
 -- ---- another value for a name
 
@@ -314,13 +314,6 @@ names_twice a b c tidy first second =
 
 met_any : met_kind kinds.Any kinds.Any ≡ kinds.Any
 met_any = refl
-
-met_free : (k l : Kind) (b : Bool) → is_free k ≡ b → is_free l ≡ b → is_free (met_kind k l) ≡ b
-met_free k l b one other = by_live (is_live l)
-  where
-    by_live : (live : Bool) → is_free (cond live k l) ≡ b
-    by_live true = one
-    by_live false = other
 
 held_both : (ks ls : List Kind) (ns : List NamedLocal) → length ks ≡ length ls → map (named_in (kinds_met ks ls)) ns ≡ held_met (map (named_in ks) ns) (map (named_in ls) ns)
 held_both ks ls [] count = refl

@@ -33,8 +33,9 @@ use Rattle.bb_compile_scope.specs.declared.fault.TextFlaw.{TextFlaw}
 use Rattle.bb_compile_scope.specs.declared.scope.Mark.{Mark}
 use Rattle.bb_compile_scope.specs.declared.scope.NamedLocal.{NamedLocal}
 use Rattle.bb_compile_scope.specs.declared.scope.Scope.{Scope}
+use Rattle.bb_compile_scope.proofs.Laws.{struck_at, length_paired}
 use Rattle.bb_compile_buffer.specs.Within.{byte, two_bytes, kind_within}
-use Rattle.bb_theorem_judged.proofs.scopes.LocalLemmas.{struck_at, length_struck, length_paired, paired_at}
+use Rattle.bb_theorem_judged.proofs.scopes.LocalLemmas.{length_struck, paired_at}
 use Rattle.bb_theorem_judged.proofs.within.WithinLists.{byte_within}
 use Rattle.bb_theorem_judged.proofs.within.WithinSchema.{InByte, InTwoBytes, IsLinkSlot, IsPartnerSlot, class_in, link_in_two, partner_in_two}
 

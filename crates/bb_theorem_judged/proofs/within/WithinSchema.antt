@@ -1,31 +1,22 @@
 -- The numbers by which a schema names its parts are within the limits of codes.
-use Rattle.std.proofs.Common.{◌≡◌, ℕ, ◌<◌, ◌≤◌, Bool, true, false, cond, List, [], length, map, Option, Some, None, Result, Ok, Err, refl, subst, arith}
-use Rattle.std.specs.Prelude.{slice_get, position, option_map, option_and_then, nat_lt, IfSome, ◌==◌}
+use Rattle.std.proofs.Common.{◌≡◌, ℕ, ◌<◌, ◌≤◌, Bool, true, false, cond, List, [], length, map, Option, Some, None, Result, Ok, Err, refl, arith}
+use Rattle.std.specs.Prelude.{slice_get, position, option_map, option_and_then, nat_lt, IfSome}
 use Rattle.std.specs.Option.{option_map_or}
 use Rattle.std.specs.Str.{bytes_eq}
 use Rattle.std.proofs.lemmas.List.{length-map}
 use Rattle.std.proofs.lemmas.Option.{slice_get_within}
 use Rattle.bb_basis.specs.Results.{◌>>=◌, ok_or}
-use Rattle.bb_basis.proofs.BoolLemmas.{and_second}
 use Rattle.bb_basis.proofs.PositionLemmas.{position_within}
 use Rattle.bb_schema_classes.specs.declared.kind.Kind.{Kind as SlotKind}
 use Rattle.bb_schema_classes.specs.declared.kind.Kind.TheVariants as held
 use Rattle.bb_schema_classes.specs.declared.kind.Link.{Link}
 use Rattle.bb_schema_classes.specs.declared.label_set.LabelSet.{LabelSet}
-use Rattle.bb_schema_classes.specs.declared.value.Value.{Value}
 use Rattle.bb_schema_classes.specs.declared.value.Value.TheVariants as values
-use Rattle.bb_schema_classes.specs.Fits.{IsHeld}
-use Rattle.bb_schema_classes.specs.Kinds.{kind_of_value}
 use Rattle.bb_schema_classes.specs.Naming.{AreNames}
-use Rattle.bb_schema_classes.specs.Values.{label_counts, is_label, value_fits}
 use Rattle.bb_schema_classes.proofs.Laws.{All-at}
-use Rattle.bb_schema.specs.declared.slot.Content.{Content}
-use Rattle.bb_schema.specs.declared.slot.Content.TheVariants as contents
 use Rattle.bb_schema.specs.declared.slot.Slot.{Slot}
 use Rattle.bb_schema.specs.Kinds.{kind_of}
-use Rattle.bb_schema.specs.Slots.{default_in, link_of}
-use Rattle.bb_schema.specs.Slots as slots
-use Rattle.bb_schema.specs.Fits.{Fits, IsSlot, IsSpace}
+use Rattle.bb_schema.specs.Fits.{Fits, IsSpace}
 use Rattle.bb_schema.specs.Schema.{Schema, class_named, space_named, label_set_named, label_named, slot_named, kind_of_slot, dims_of}
 use Rattle.bb_schema.specs.declared.space.Dim.{Dim}
 use Rattle.bb_schema.specs.declared.space.Space.{Space}
@@ -36,6 +27,7 @@ use Rattle.bb_lang.specs.Relation.TheVariants as relations
 use Rattle.bb_compile_scope.specs.Slots.{with_kind, slot_of, value_in, link_in, partner_in, value_slot, link_slot, partner_slot, index_of, in_byte, operand_due, dimension_at, dimension}
 use Rattle.bb_compile_scope.specs.declared.fault.TextFlaw.{TextFlaw}
 use Rattle.bb_compile_scope.specs.declared.fault.TextFlaw.TheVariants.{Unknown, Kind as WrongKind}
+use Rattle.bb_compile_scope.proofs.Laws.{set_of_slot, class_of_link}
 use Rattle.bb_compile_buffer.specs.Within.{byte, two_bytes, kind_within}
 use Rattle.bb_theorem_judged.proofs.within.WithinLists.{byte_within, bytes_within}
 
@@ -113,65 +105,6 @@ module _ (s : Schema) (sf : Fits s) where
           let few = sf.few_slots in
           bytes_within slot 65536 (omega (arith, lt, few)) (omega arith)
 
-  -- ---- the label set of what a slot holds
-
-  label_there : (counts : List ℕ) (set label : ℕ) → is_label counts set label ≡ true → set < length counts
-  label_there counts set label h = by_set (slice_get counts set) refl h
-    where
-      by_set : (o : Option ℕ) → slice_get counts set ≡ o → option_map_or (λ count. nat_lt label count) o false ≡ true → set < length counts
-      by_set None at h = absurd cc
-      by_set (Some count) at h = slice_get_within counts set count at
-
-  default_there : (v : Value) (set : ℕ) → kind_of_value v ≡ held.Label set → value_fits (label_counts s.label_sets) (kind_of_value v) v ≡ true → set < length s.label_sets
-  unfolding value_fits
-  default_there (values.Label of label) set is fits =
-      let e : of ≡ set = cc in
-      let lt = label_there (label_counts s.label_sets) of label (and_second (of == of) (is_label (label_counts s.label_sets) of label) fits) in
-      let count : length (label_counts s.label_sets) ≡ length s.label_sets = length-map s.label_sets (λ (l : LabelSet). length l.values) in
-      omega (arith, lt, count, e)
-  default_there (values.Int n) set is fits = absurd cc
-  default_there (values.Text t) set is fits = absurd cc
-  default_there (values.Bool b) set is fits = absurd cc
-  default_there (values.Interval low high) set is fits = absurd cc
-
-  slot_set : (n set : ℕ) → kind_of_slot s n ≡ Some (held.Label set) → set < length s.label_sets
-  slot_set n set h = by_slot (slice_get s.slots n) refl h
-    where
-      by_content : (t : Slot) (c : Content) → t.content ≡ c → IsSlot s.label_sets (length s.classes) t → kind_of c ≡ held.Label set → set < length s.label_sets
-      by_content t (contents.Default v) is slot same = default_there v set same (subst (λ c. IfSome (default_in c) (IsHeld s.label_sets)) is slot.default)
-      by_content t (contents.Link l) is slot same = absurd cc
-
-      by_slot : (o : Option Slot) → slice_get s.slots n ≡ o → option_map (λ (t : Slot). kind_of t.content) o ≡ Some (held.Label set) → set < length s.label_sets
-      by_slot None at h = absurd cc
-      by_slot (Some t) at h = by_content t t.content refl (All-at (IsSlot s.label_sets (length s.classes)) s.slots n t at sf.slots) (let e : kind_of t.content ≡ held.Label set = cc in e)
-
-  -- ---- where a link slot leads
-
-  owner_there : (n of : ℕ) → option_map (λ (t : Slot). t.owner) (slice_get s.slots n) ≡ Some of → of < length s.classes
-  owner_there n of h = by_slot (slice_get s.slots n) refl h
-    where
-      by_slot : (o : Option Slot) → slice_get s.slots n ≡ o → option_map (λ (t : Slot). t.owner) o ≡ Some of → of < length s.classes
-      by_slot None at h = absurd cc
-      by_slot (Some t) at h = let e : t.owner ≡ of = cc in subst (λ c. c < length s.classes) e (All-at (IsSlot s.label_sets (length s.classes)) s.slots n t at sf.slots).owner
-
-  link_here : (n : ℕ) (l : Link) → kind_of_slot s n ≡ Some (held.Link l) → link_of s.slots n ≡ Some l
-  link_here n l h = by_slot (slice_get s.slots n) h
-    where
-      no_link : (v : Value) → kind_of_value v ≡ held.Link l → ⊥
-      no_link (values.Int n) h = cc
-      no_link (values.Text t) h = cc
-      no_link (values.Bool b) h = cc
-      no_link (values.Label of label) h = cc
-      no_link (values.Interval low high) h = cc
-
-      by_content : (c : Content) → kind_of c ≡ held.Link l → slots.link_in c ≡ Some l
-      by_content (contents.Default v) h = absurd (no_link v h)
-      by_content (contents.Link k) h = cc
-
-      by_slot : (o : Option Slot) → option_map (λ (t : Slot). kind_of t.content) o ≡ Some (held.Link l) → option_and_then (λ (t : Slot). slots.link_in t.content) o ≡ Some l
-      by_slot None h = absurd cc
-      by_slot (Some t) h = by_content t.content (let e : kind_of t.content ≡ held.Link l = cc in e)
-
   -- ---- slots of a class
 
   abbrev IsHere : Result (ℕ × SlotKind) TextFlaw → Type 0
@@ -198,7 +131,7 @@ module _ (s : Schema) (sf : Fits s) where
       by_kind slot held.Int at = (slot_there slot held.Int at, refl)
       by_kind slot held.Text at = (slot_there slot held.Text at, refl)
       by_kind slot held.Bool at = (slot_there slot held.Bool at, refl)
-      by_kind slot (held.Label set) at = (slot_there slot (held.Label set) at, set_there set (slot_set slot set at))
+      by_kind slot (held.Label set) at = (slot_there slot (held.Label set) at, set_there set (set_of_slot s sf slot set at))
       by_kind slot held.Interval at = (slot_there slot held.Interval at, refl)
       by_kind slot (held.Link link) at = tt
 
@@ -228,7 +161,7 @@ module _ (s : Schema) (sf : Fits s) where
       by_slot (Ok p) at = by_kind p.0 p.1 at
 
   leads_there : (slot : ℕ) (link : Link) → kind_of_slot s slot ≡ Some (held.Link link) → two_bytes link.to ≡ true
-  leads_there slot link at = class_there link.to (owner_there link.inverse link.to (sf.coupled slot link (link_here slot link at)).there)
+  leads_there slot link at = class_there link.to (class_of_link s sf slot link at)
 
   pub link_in_two : (class : ℕ) (name : List ℕ) → IsLinkSlot (link_slot s class name)
   link_in_two class name = by_link (link_slot s class name) (is_link class name)
