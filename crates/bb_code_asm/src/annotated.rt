@@ -2,7 +2,8 @@
 //! prints it.
 
 use crate::text::{json_of, write_tables};
-use bb_code::{Code, Op, Query, Schema, write_op};
+use crate::writing::write_op;
+use bb_code::{Code, Op, Query, Schema};
 use std::alloc::{AllocError, Global};
 use std::fmt::Write;
 

@@ -13,10 +13,13 @@ mod operands;
 mod pattern;
 mod statement;
 mod text;
+mod text_table;
 mod words;
+mod writing;
 
 pub use annotated::listing;
-pub use bb_code::{Code, CodeFault, Kind, write_kind};
+pub use bb_code::{Code, CodeFault, Kind};
 pub use draft::assemble;
 pub use fault::{AsmFault, Slip};
 pub use text::disassemble;
+pub use writing::{write_kind, write_op};

@@ -2,7 +2,8 @@
 
 use crate::fault::Slip;
 use crate::operands::Operands;
-use bb_code::{Division, LinkChange, Op, SAID_LIMIT, plain_op};
+use crate::text_table::plain_op;
+use bb_code::{Division, LinkChange, Op, SAID_LIMIT};
 
 /// Reads the operands of an op and returns it.
 pub(crate) fn op_of(name: &str, operands: &mut Operands<'_>) -> Result<Op, Slip> {

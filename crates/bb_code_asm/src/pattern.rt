@@ -3,7 +3,8 @@
 
 use crate::fault::{Slip, StatementFault};
 use crate::operands::Operands;
-use bb_code::{Node, Pattern, relation_of};
+use crate::text_table::relation_of;
+use bb_code::{Node, Pattern};
 use std::alloc::Global;
 
 /// Reads a pattern of at most `depth` levels, and subtracts its nodes from `room`.

@@ -1,9 +1,8 @@
 //! Writes the text of a code. bbasm and the cases call `disassemble`.
 
-use bb_code::{
-    Code, FrameEntry, Kind, Node, Op, OperandKind, Pattern, Query, Version, relation_name,
-    write_kind, write_op,
-};
+use crate::text_table::relation_name;
+use crate::writing::{write_kind, write_op};
+use bb_code::{Code, FrameEntry, Kind, Node, Op, OperandKind, Pattern, Query, Version};
 use serde_json::Value;
 use std::alloc::{AllocError, Global};
 use std::fmt::Write;

@@ -3,7 +3,8 @@
 
 use crate::spot::Spot;
 use bb_basis::Memory;
-use bb_code::{Op, Place, write_op};
+use bb_code::{Op, Place};
+use bb_code_asm::write_op;
 use bb_diag_text::{begin_line, write_excerpt_at};
 use std::fmt::Write;
 

@@ -1,7 +1,8 @@
-//! The text form of ops and kinds. The assembler and the messages on codes write them.
+//! The text form of ops and kinds. `disassemble` and `listing` write them, and so do messages and warnings on codes
+//! (bb_diag, bb_lint_parts) and the cases.
 
 use crate::text_table::plain_name;
-use crate::{Division, Kind, LinkChange, Op};
+use bb_code::{Division, Kind, LinkChange, Op};
 use std::alloc::AllocError;
 use std::fmt::Write;
 

@@ -1,6 +1,7 @@
-//! The names of the ops without operands and of the relations of patterns, for reading (bb_code_asm) and writing.
+//! The names of the ops without operands and of the relations of patterns. op.rt and pattern.rt read them; writing.rt and
+//! text.rt write them.
 
-use crate::{Bound, Calculation, Comparison, Logic, Op, Relation};
+use bb_code::{Bound, Calculation, Comparison, Logic, Op, Relation};
 
 // The ops without operands.
 const PLAIN: [(&str, Op); 24] = [
@@ -50,12 +51,12 @@ fn entry_of<T: Copy>(table: &[(&str, T)], name: &str) -> Option<T> {
 }
 
 /// Returns the op without operands that has a name, if there is one.
-pub fn plain_op(name: &str) -> Option<Op> {
+pub(crate) fn plain_op(name: &str) -> Option<Op> {
     entry_of(&PLAIN, name)
 }
 
 /// Returns the relation that has a name, if there is one.
-pub fn relation_of(name: &str) -> Option<Relation> {
+pub(crate) fn relation_of(name: &str) -> Option<Relation> {
     entry_of(&RELATIONS, name)
 }
 
@@ -70,7 +71,7 @@ pub(crate) fn plain_name(op: Op) -> Option<&'static str> {
 }
 
 /// Returns the name of a relation.
-pub fn relation_name(relation: Relation) -> &'static str {
+pub(crate) fn relation_name(relation: Relation) -> &'static str {
     match relation {
         Relation::Within => "within",
         Relation::Covers => "covers",
