@@ -1,5 +1,5 @@
-/* The blackboard shell as a library. Link `out/libbb_c.a` of this crate, and behind it the kit's `c/lib*_c.a`, as
-   `examples/c/try` does; `docs/hosts/C_AND_PYTHON.md` has more. */
+/* The blackboard shell as a library. Link `out/libbb_c.a` of this crate and then the kit's `c/lib*_c.a`, as
+   `examples/c/try` does. See `docs/hosts/C_AND_PYTHON.md`. */
 #ifndef BB_H
 #define BB_H
 
@@ -10,51 +10,51 @@
 extern "C" {
 #endif
 
-/* The version of the calls that are declared here. A host compares it with `bb_version()`, the library's own. */
+/* The version of the calls declared here. Check that `bb_version()`, the library's own, equals it. */
 #define BB_VERSION 2
 
-/* What is done with an input: BB_UNITS runs it, and writes a document of the units that are left in place of the trace. */
+/* Modes of `bb_serve`. BB_UNITS runs the input and writes a document of the units that are left, not the trace. */
 enum { BB_RUN = 0, BB_CHECK = 1, BB_COMPILE = 2, BB_UNITS = 3 };
 
-/* How it ended. */
+/* How a call of `bb_serve`, or a run, ended. */
 enum {
-    BB_DONE = 0,    /* a run came to quiescence, or a check or a bundle was written */
-    BB_REFUSED = 2, /* the input is refused, and the output says why; or there is no such mode, and it is empty */
-    BB_LIMIT = 3,   /* a run made as many cycles as its limit */
-    BB_FULL = 4,    /* a run found no room for one more unit or activation */
-    BB_MEMORY = 5,  /* memory ran out; the output has whole segments of the trace, or nothing */
-    BB_ROOM = 6     /* what was to be written is longer than the output, which is full of a front of it */
+    BB_DONE = 0,    /* the run reached quiescence, or the check or bundle is written */
+    BB_REFUSED = 2, /* the input is refused and the output says why; or no such mode, and the output is empty */
+    BB_LIMIT = 3,   /* the run made all the cycles of its limit */
+    BB_FULL = 4,    /* the run has no room for another unit or activation */
+    BB_MEMORY = 5,  /* memory ran out; the output holds whole segments of the trace, or nothing */
+    BB_ROOM = 6     /* the result is longer than the output, which is full of a prefix of it */
 };
 
-/* The version of these calls. It rises where one changes its meaning. */
+/* Returns the version of these calls. It is raised if the meaning of a call changes. */
 uint32_t bb_version(void);
 
 /* ---- A whole run in one call */
 
 /* Serves an input of `input_len` bytes as the program `bb` does without its natives, with at most `limit` cycles and no
-   activation rated below `floor`. What is written goes into `output`, with no byte behind it, and the number of its
-   bytes into `written`. Answers how it ended. Any bytes may be an input: what is no UTF-8, or too long, is refused.
-   A source with `native` is refused here: a run that the host holds has natives.
+   activation rated below `floor`. Writes the result into `output`, with no terminating byte, and its length in bytes
+   into `written`. Returns how it ended. The input may be any bytes: if they are not UTF-8, or too many, it is refused.
+   Sources with `native` are refused here; a run that the host holds has natives.
 
-   No check sees what the caller keeps:
+   The caller must make sure of the following, which nothing checks:
 
    - `input` points to `input_len` bytes that nobody changes during the call, `output` to `output_len` bytes that nobody
      else reads or changes during it, and `written` to an aligned `size_t`. No two of them overlap. Lengths are at most
-     PTRDIFF_MAX. None of the pointers is null, also where it is to no bytes; `bb_serve_nullable` takes null.
-   - Calls may go on in several threads at once: they share nothing. But none is made from a signal handler, or from the
-     forked child of a process that has threads.
-   - `malloc`, `realloc` and `free` are of one allocator. `malloc` and `realloc` align a block to each power of two up
-     to 16 that divides its size.
+     PTRDIFF_MAX. No pointer is null, even if it points to no bytes; `bb_serve_nullable` accepts null.
+   - Several threads may make calls at the same time: calls share nothing. But no call is made from a signal handler, or
+     from the forked child of a process that has threads.
+   - `malloc`, `realloc` and `free` belong to one allocator. `malloc` and `realloc` align a block to each power of two
+     up to 16 that divides its size.
 
-   The call takes memory by `malloc` and gives all of it back: as much as `output_len` at once, however short the answer
-   is; a copy of the input; the blackboard, the codes and what waits; and all notes of one execution, and their text.
-   `limit` bounds none of that, and no time: it counts cycles, and one `do` may nest four loops over 65,536 units. Who
-   runs sources of strangers bounds the process from outside (RLIMIT_CPU, RLIMIT_AS). The call recurses over nested
-   JSON, blocks and expressions, to bounded depths: a main thread's stack is ample, a smaller one the host's to try. */
+   The call allocates memory by `malloc` and frees all of it: `output_len` bytes at once, however short the result is; a
+   copy of the input; the blackboard, the codes and the pending activations; and all notes of one execution with their
+   text. `limit` bounds neither memory nor time: it counts cycles, and one `do` may nest four loops over 65,536 units.
+   If you run sources of strangers, bound the process from outside (RLIMIT_CPU, RLIMIT_AS). The call recurses over
+   nested JSON, blocks and expressions, to bounded depths: a main thread has ample stack; try out a smaller one. */
 uint8_t bb_serve(const uint8_t *input, size_t input_len, uint8_t mode, uint32_t limit, int64_t floor, uint8_t *output,
                  size_t output_len, size_t *written);
 
-/* `bb_serve`, for which a pointer to no bytes may be null, and `written` too. */
+/* `bb_serve`, but a pointer to no bytes may be null, and so may `written`. */
 static inline uint8_t bb_serve_nullable(const uint8_t *input, size_t input_len, uint8_t mode, uint32_t limit,
                                         int64_t floor, uint8_t *output, size_t output_len, size_t *written)
 {
@@ -67,8 +67,8 @@ static inline uint8_t bb_serve_nullable(const uint8_t *input, size_t input_len, 
 
 /* ---- A run that the host holds
 
-   A host may begin a run, have it make some cycles, come back, say what happened meanwhile, and go on. Where it came
-   back shows nowhere in the trace: 3 cycles and then 4 write what 7 write.
+   A host can begin a run, have it make some cycles, post what happened meanwhile, and have it continue. Pauses leave no
+   mark in the trace: 3 cycles and then 4 write the same trace as 7.
 
        bb_run run = BB_RUN_NONE;
        uint8_t stands = bb_open(&run, input, input_len, BB_S(""), 0);
@@ -77,18 +77,18 @@ static inline uint8_t bb_serve_nullable(const uint8_t *input, size_t input_len, 
        bb_finish(&run);
        bb_close(&run);
 
-   No check sees what the caller keeps, beside what is said of `bb_serve`:
+   The caller must make sure of the following, besides the list of `bb_serve`. Nothing checks it:
 
-   - A handle is the caller's, and what it points to is the library's, from `bb_open` to `bb_close`. It begins as
-     BB_RUN_NONE, and only the library writes its fields. Of the copies of one that is open a single one is used. One
-     that is forgotten leaks its run.
-   - Nothing that a call passes overlaps anything else that it passes, the handle too. Bytes that are handed in are
-     copied. No pointer is null, also where it is to no bytes: `bb_bytes` makes one of null.
-   - A run stays on the thread that opened it, as its texts are counted without locks. Runs share nothing, so each
-     thread may have its own. No call is made from a signal handler, or from the forked child of a process that has
-     threads. */
+   - The handle belongs to the caller, and what it points to belongs to the library, from `bb_open` to `bb_close`. A
+     handle is initialized with BB_RUN_NONE, and only the library writes its fields. Of the copies of an open handle,
+     only one is used. If an open handle is lost, its run leaks.
+   - No two arguments of a call overlap; this includes the handle. The library copies the bytes that you pass. No
+     pointer is null, even if it points to no bytes: `bb_bytes` replaces null.
+   - A run stays on the thread that opened it, because references to its texts are counted without locks. Runs share
+     nothing, so each thread can have its own. No call is made from a signal handler, or from the forked child of a
+     process that has threads. */
 
-/* A run, or none. */
+/* A run, or no run. */
 typedef struct bb_run {
     void *at;
     uint8_t is_open;
@@ -96,48 +96,48 @@ typedef struct bb_run {
 
 #define BB_RUN_NONE {NULL, 0}
 
-/* A literal, as its bytes and their number. */
+/* A literal: its bytes and its length. */
 #define BB_S(text) (const uint8_t *)(text), sizeof(text) - 1
 
-/* What a call on a run returns. A move (`bb_open`, `bb_turn`, `bb_advance`, `bb_post`, `bb_answer`) says how the run
-   stands: BB_RESTING, BB_GOING, BB_DUE, or BB_FULL where it is over, for want of room for one more unit or activation.
-   Each call may return these:
+/* What a call on a run returns. A move (`bb_open`, `bb_turn`, `bb_advance`, `bb_post`, `bb_answer`) returns the state
+   of the run: BB_RESTING, BB_GOING, BB_DUE, or BB_FULL if it is over because there is no room for another unit or
+   activation. Every call can return these:
 
-   - BB_REFUSED: the input, a name or a value is refused, and nothing was done.
-   - BB_MEMORY: memory ran out. After a move, in it or before, the run can be read and closed, and nothing else. Any
+   - BB_REFUSED: the input, a name or a value is refused. Nothing was done.
+   - BB_MEMORY: memory ran out. If it ran out in this move or an earlier one, the run can only be read and closed. Any
      other call did nothing, and may be tried again.
-   - BB_MISUSE: there is no such run, or it was finished; or, for `bb_open`, there is one. Nothing was done. */
+   - BB_MISUSE: the run does not exist, or was finished; for `bb_open`, it is already open. Nothing was done. */
 enum {
     BB_OK = 0,      /* the call was made */
-    BB_NONE = 1,    /* what is looked up is not there */
-    BB_RESTING = 0, /* quiescence was told, and it changed nothing: only a post can have the run go on */
-    BB_GOING = 3,   /* something can be chosen, or a turn tells quiescence */
-    BB_DUE = 8,     /* a native is due: only `bb_answer` has the run go on */
+    BB_NONE = 1,    /* nothing was found */
+    BB_RESTING = 0, /* the trace has quiescence, which changed nothing: only a post continues the run */
+    BB_GOING = 3,   /* something can be chosen, or a turn reports quiescence */
+    BB_DUE = 8,     /* a native is due: only `bb_answer` continues the run */
     BB_MISUSE = 9
 };
 
-/* Begins the run of an input, with no activation rated below `floor`: tells the first units, and what the sources do
-   about them. A source with `native` may have one of the names in `natives`, which stand one on each line: where it is to
-   act its native is due, and the host answers. Where the input is refused, `bb_serve` with a limit of 0 says why, but of
-   each source with `native` it says that there is none. */
+/* Begins the run of an input, with no activation rated below `floor`: reports the initial units, and what the sources
+   do about them. `natives` has the names of the natives, one a line, that sources may have: when such a source is to
+   act, its native is due, and the host answers. If the input is refused, `bb_serve` with a limit of 0 says why, except
+   that it refuses every source with `native`, because it has no natives. */
 uint8_t bb_open(bb_run *run, const uint8_t *input, size_t input_len, const uint8_t *natives, size_t natives_len,
                 int64_t floor);
 
-/* Makes a cycle, or tells quiescence where nothing can be chosen. Where the run rests, or is over, or a native is due,
-   nothing happens. */
+/* Makes a cycle, or reports quiescence if nothing can be chosen. Does nothing if the run is at rest or over, or a
+   native is due. */
 uint8_t bb_turn(bb_run *run);
 
-/* Makes at most so many cycles more, and tells quiescence after them where nothing can be chosen then. A native that is
-   due ends it: `bb_made` tells how many cycles are left. */
+/* Makes at most `cycles` more cycles, then reports quiescence if nothing can be chosen. Ends early if a native is due:
+   `bb_made` shows how many cycles were made. */
 uint8_t bb_advance(bb_run *run, uint32_t cycles);
 
-/* The number of cycles that were made. 0: none, or there is no run, or it was finished. */
+/* The number of cycles made so far. 0: none, or the run does not exist or was finished. */
 uint64_t bb_made(bb_run *run);
 
-/* Asks gather in a run until they are posted, or answer for a native: that a unit be created, be given a value or a link, enter or leave a
-   space, be deleted, or that a text be said. Refused are bytes that are no UTF-8, an interval that ends before it begins,
-   and a label, or a set of labels, that the schema does not have. Whatever else may be wrong with an ask is found when
-   it is applied, and told in the trace as `refused ask I R`. */
+/* Each of these calls adds an ask: to create a unit, give it a value or a link, take a link away, have it enter or
+   leave a space, delete it, or say a text. The run gathers asks until they are posted, or answer for a native. Refused
+   are bytes that are not UTF-8, an interval that ends before it begins, and a label or label set that the schema does
+   not have. Any other fault of an ask is found when it is applied; the trace then has `refused ask I R`. */
 uint8_t bb_ask_new(bb_run *run, const uint8_t *class_name, size_t class_name_len);
 uint8_t bb_ask_int(bb_run *run, uint64_t unit, const uint8_t *slot, size_t slot_len, int64_t value);
 uint8_t bb_ask_bool(bb_run *run, uint64_t unit, const uint8_t *slot, size_t slot_len, uint8_t value);
@@ -153,27 +153,28 @@ uint8_t bb_ask_leave(bb_run *run, uint64_t unit, const uint8_t *space, size_t sp
 uint8_t bb_ask_delete(bb_run *run, uint64_t unit);
 uint8_t bb_ask_say(bb_run *run, const uint8_t *text, size_t text_len);
 
-/* Forgets the asks that were gathered since the last post or answer. */
+/* Drops the asks gathered since the last post or answer. */
 uint8_t bb_discard(bb_run *run);
 
-/* Posts the asks that were gathered: they are applied in order, and the sources answer to what they changed. Then none
-   are gathered. Where the run is over, or a native is due, nothing is applied. */
+/* Posts the gathered asks: they are applied in order, and the sources respond to the changes. Then no asks are
+   gathered. If the run is over, or a native is due, nothing is applied. */
 uint8_t bb_post(bb_run *run);
 
-/* The unit on which a native is due, and the native's name. BB_NONE: none is due. */
+/* The unit on which a native is due, and the native's name. BB_NONE: no native is due. */
 uint8_t bb_due(bb_run *run, uint64_t *unit, uint8_t *to, size_t to_len, size_t *len);
 
-/* Answers for the native that is due by the asks that were gathered, perhaps none: they are applied in order, as if it
-   had been called. Then none are gathered. Where no native is due nothing is applied. */
+/* Answers for the native that is due with the gathered asks, perhaps none: they are applied in order, as if the native
+   had been called and had asked for them. Then no asks are gathered. If no native is due, nothing is applied. */
 uint8_t bb_answer(bb_run *run);
 
-/* The number that the next new unit gets, asks that wait left out. 0: there is no run, or it was finished. */
+/* The number that the next new unit gets, gathered asks not counted. 0: the run does not exist or was finished. */
 uint64_t bb_next(bb_run *run);
 
-/* What stands on the blackboard between two moves. Each call returns BB_OK; or BB_NONE, and writes nothing: there is no
-   such unit, its class has no such slot, the slot holds a value of another kind, or the run was finished. Of bytes as
-   much as there is room for goes into `to`, and the length of all into `len`: where that is more than `to_len`, the rest
-   is missing. A label goes by its name. Partners come in order of addition, and by an ordinary slot there are none. */
+/* These calls look up what is on the blackboard between two moves. Each returns BB_OK; or BB_NONE, and writes nothing,
+   if there is no such unit, its class has no such slot, the slot holds a value of another kind, or the run was
+   finished. As many bytes as `to_len` allows are written into `to`, and the whole length into `len`: if that is more
+   than `to_len`, the rest is missing. A label is given by its name. Partners are in the order in which they were
+   linked; an ordinary slot has none. */
 uint8_t bb_class(bb_run *run, uint64_t unit, uint8_t *to, size_t to_len, size_t *len);
 uint8_t bb_int(bb_run *run, uint64_t unit, const uint8_t *slot, size_t slot_len, int64_t *value);
 uint8_t bb_bool(bb_run *run, uint64_t unit, const uint8_t *slot, size_t slot_len, uint8_t *value);
@@ -185,37 +186,38 @@ uint8_t bb_label(bb_run *run, uint64_t unit, const uint8_t *slot, size_t slot_le
 uint8_t bb_links(bb_run *run, uint64_t unit, const uint8_t *slot, size_t slot_len, uint64_t *to, size_t to_len,
                  size_t *count);
 
-/* The units of a class, and of those below it, rising: as many as there is room for go into `to`, and how many there are
-   into `count`. BB_NONE: there is no such class. */
+/* The units of a class and of the classes below it, in ascending order: as many as `to_len` allows are written into
+   `to`, and their whole number into `count`. BB_NONE: there is no such class. */
 uint8_t bb_units(bb_run *run, const uint8_t *class_name, size_t class_name_len, uint64_t *to, size_t to_len,
                  size_t *count);
 
-/* The blackboard as a document of first units, which an input takes below its line `%units`: as much as there is room
-   for goes into `to`, and the length of all into `len`. Units have new numbers there, from 1 without gaps, for their
-   names. It has no agenda, and no numbers of activations or cycles: loading it begins a run, and does not go on with
-   this one. It is made anew at each call. */
+/* The blackboard as a document of initial units, which an input can have below its line `%units`: as many bytes as
+   `to_len` allows are written into `to`, and the whole length into `len`. The units are named by new numbers there,
+   from 1 without gaps. The document has no agenda, and no numbers of activations or cycles: an input with it begins a
+   new run, and does not continue this one. Each call makes the document again. */
 uint8_t bb_document(bb_run *run, uint8_t *to, size_t to_len, size_t *len);
 
-/* What the sources of the run may cost: the greatest number of steps that an execution of any of their codes can make,
-   where no sequence that it finds has more than `found` units, of which there are 65,536 at most. UINT64_MAX: so many or
-   more. `bb_creates` tells by 1 or 0 whether one of their codes has an op that makes a unit. */
+/* What the sources of the run can cost: the maximum number of steps that an execution of any of their codes can make if
+   no sequence that it finds has more than `found` units; a run has 65,536 units at most. UINT64_MAX: that many or more.
+   `bb_creates` sets 1 if one of their codes has an op that creates a unit, else 0. */
 uint8_t bb_most_steps(bb_run *run, uint32_t found, uint64_t *steps);
 uint8_t bb_creates(bb_run *run, uint8_t *creates);
 
-/* Reads of the trace what was not read yet: as much as there is room for goes into `to`, and its length into `len`. The
-   length is 0 once all was read. Each byte is read once; after each move all that it told can be. */
+/* Reads the part of the trace that was not read yet: as many bytes as `to_len` allows are written into `to`, and their
+   number into `len`, which is 0 once everything is read. Each byte is read once. After each move, all that it added to
+   the trace can be read. */
 uint8_t bb_read(bb_run *run, uint8_t *to, size_t to_len, size_t *len);
 
-/* Ends a run, and tells its end: where it still goes on it comes to rest first, or ends by its limit. Returns how it
-   ended: BB_DONE, BB_LIMIT, BB_FULL or BB_MEMORY. Then it can be read and closed, and nothing else. BB_DUE: a native is
-   due, and the run goes on as it is. */
+/* Ends a run, and adds its end to the trace: quiescence, or the limit if something could still be chosen. Returns how
+   the run ended: BB_DONE, BB_LIMIT, BB_FULL or BB_MEMORY. After that it can only be read and closed. BB_DUE: a native
+   is due, and the run is as it was. */
 uint8_t bb_finish(bb_run *run);
 
-/* Closes a run, finished or not, and gives all its memory back. Then the handle is none; one that is none may be closed
-   too. */
+/* Closes a run, finished or not, and frees all its memory. The handle is BB_RUN_NONE afterwards, and such a handle may
+   be closed too. */
 void bb_close(bb_run *run);
 
-/* A pointer to bytes that is not null, of one that may be where there are none. */
+/* Returns a pointer that is not null: `bytes`, or, if it is null, one to no bytes. */
 static inline const uint8_t *bb_bytes(const void *bytes)
 {
     static const uint8_t none = 0;

@@ -31,7 +31,7 @@ pub enum Fault {
     /// A name is given twice, or is a word of inserts.
     #[error("this name stands for something already")]
     Taken,
-    /// A name stands for nothing of its kind.
+    /// Nothing of its kind has the name.
     #[error("no text or board has this name")]
     Unknown,
     /// An option is missing, unknown, or has no value.

@@ -78,7 +78,7 @@ impl<'a> Header<'a> {
     }
 }
 
-/// Parses a word as a number. `Number`: it is none of this type.
+/// Parses a word as a number. `Number`: it is not a number of this type.
 pub fn number<T: FromStr>(word: &str) -> Result<T, Fault>
 where
     T::Err: Drop,

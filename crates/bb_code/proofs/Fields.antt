@@ -62,7 +62,7 @@ pub record IsSpelled (A : Type 0) (field : Field A) (bytes_of : A → List ℕ) 
   pub takes : (bytes : List ℕ) (x : A × List ℕ) → IsBytes bytes → field bytes ≡ Ok x → Takes bytes (bytes_of x.0) x.1 × Fits x.0
   pub again : (a : A) (rest : List ℕ) → Fits a → field (bytes_of a ++ rest) ≡ Ok (a, rest)
 
--- ---- what is made of one field or of two, behind bytes that were read before
+-- ---- what is made of one field or of two, after bytes that were read before
 
 module _ (A B : Type 0) (field : Field B) (bytes_b : B → List ℕ) (FitsB : B → Type 0) (spelled : IsSpelled B field bytes_b FitsB) (make : B → A) where
   pub one_takes : (front : List ℕ) (bytes_of : A → List ℕ) (Fits : A → Type 0) → ((b : B) → FitsB b → (bytes_of (make b) ≡ front ++ bytes_b b) × Fits (make b))

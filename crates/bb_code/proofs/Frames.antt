@@ -34,7 +34,7 @@ KindFits tag forms.Seq = tag ≡ 8
 kinds_fit : EachAt KindFits 0 KINDS
 kinds_fit = ((refl, tt), ((refl, tt), ((refl, tt), ((refl, tt), (refl, ((refl, tt), (refl, (refl, (refl, tt)))))))))
 
--- what was read behind a byte is a kind that both spell
+-- what was read after a byte is a kind that both spell
 abbrev IsKindRead : ℕ → List ℕ → Kind × List ℕ → Type 0
 IsKindRead tag bytes x = Takes (tag ∷ bytes) (kind_bytes x.0) x.1 × IsKind x.0
 

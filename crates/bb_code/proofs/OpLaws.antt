@@ -208,7 +208,7 @@ not_below z h = grind (arith, ints)
 at_least : (z : ℤ) → pos 1 ≤ℤ z → int_lt z (pos 1) ≡ false
 at_least z h = grind (arith, ints)
 
--- what was read behind an opcode is an op that both spell
+-- what was read after an opcode is an op that both spell
 abbrev IsOpRead : ℕ → List ℕ → Op × List ℕ → Type 0
 IsOpRead code bytes x = Takes (code ∷ bytes) (op_bytes x.0) x.1 × IsOp x.0
 

@@ -96,7 +96,7 @@ repeated_reads part reads (suc n) at x fits e =
     subst (AreRead (suc n) at) {x = made} {y = x} (same_ok made x b.2)
     (record { takes = both; fits = (first.fits, others.fits); left = omega (arith, first.left, others.left); count = ap suc others.count })
 
--- what was read behind the byte of a node
+-- what was read after the byte of a node
 record IsNodeRead (tag : ℕ) (at : Ahead) (x : Tree × Ahead) : Type 0 where
   takes : Takes (tag ∷ at.1) (tree_bytes x.0) x.1.1
   fits : IsTree x.0
@@ -260,7 +260,7 @@ query_takes bytes x fits e =
     } in
     subst (λ (y : Query × List ℕ). Takes bytes (query_bytes y.0) y.1 × IsQuery y.0) {x = (made, p.0.1.1)} {y = x} (same_ok (made, p.0.1.1) x p.2) (whole, is)
 
--- what is read behind the class and the space
+-- what is read after the class and the space
 abbrev after_space : ℕ → ℕ × List ℕ → Result (Query × List ℕ) CodeFault
 after_space class space = short_list_at OPERAND_LIMIT operand_kind_at space.1 >>= λ kinds. pattern_at NODE_LIMIT (NODE_LIMIT, kinds.1) >>= λ pattern. Ok (record { class = class; space = space.0; kinds = kinds.0; pattern = pattern.0 }, pattern.1.1)
 

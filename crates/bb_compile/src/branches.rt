@@ -43,7 +43,7 @@ impl Branch {
         Ok(jump)
     }
 
-    /// Ends the block of `else`. `ended` tells whether it always ends; `kinds` are the kinds that the first block
+    /// Ends the block of `else`. `ended` is true if it always ends; `kinds` are the kinds that the first block
     /// leaves.
     #[tactic(auto, unfolding(crate::specs::Statements::else_ended))]
     pub fn end_else(

@@ -98,7 +98,7 @@ impl Begun {
         buffer.label()
     }
 
-    /// Emits the end of the loop. `ended` tells whether the body always ends.
+    /// Emits the end of the loop. `ended` is true if the body always ends.
     #[tactic(auto, unfolding(crate::specs::Statements::loop_ended))]
     pub(crate) fn end(&self, buffer: &mut Buffer, ended: bool) -> Result<(), CompileFault>
         ensures { Gives OutOfMemory (λ _. buffer.new) result (loop_ended self.now ended buffer.old) }

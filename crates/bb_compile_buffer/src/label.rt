@@ -1,4 +1,4 @@
-//! Labels: targets of ops, with what the locals hold there. Frames are made of them.
+//! Labels: targets of ops, with what the locals hold there. Frames are built from them.
 
 use bb_compile_scope::LocalKinds;
 

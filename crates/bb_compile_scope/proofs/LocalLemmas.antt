@@ -1,4 +1,4 @@
--- Locals that are set, how many are free, and what they hold behind blocks and branches, local by local.
+-- Locals that are set, how many are free, and what they hold after blocks and branches, local by local.
 use Rattle.std.proofs.Common.{◌≡◌, ℕ, zero, suc, ◌<◌, Bool, true, false, cond, List, [], ◌∷◌, length, map, Option, Some, None, refl, sym, ap, ◌∙◌, arith}
 use Rattle.std.specs.Prelude.{set, position, option_map}
 use Rattle.std.proofs.lemmas.List.Quantifiers.{position-Some}
@@ -81,7 +81,7 @@ spot_taken (x ∷ xs) i k at taken = by_free (λ j found. spot_taken xs j k foun
 pub frees_taken : (ks : List Kind) (i : ℕ) (k : Kind) → position is_free ks ≡ Some i → is_free k ≡ false → frees ks ≡ suc (frees (set ks i k))
 frees_taken ks i k at taken = spot_taken ks i k (sym (position_spot is_free ks) ∙ at) taken
 
--- ---- behind a block, and behind branches
+-- ---- after a block, and after branches
 
 pub length_paired : (f : Kind → Kind → Kind) (ks ls : List Kind) → length ks ≡ length ls → length (paired f ks ls) ≡ length ks
 unfolding paired

@@ -1,4 +1,4 @@
-//! What the locals of a code hold at a place. A scope contains it, and frames are made of it.
+//! What the locals of a code hold at a place. A scope contains it, and frames are built from it.
 
 ghost use Rattle.std.specs.Prelude.{◌≡◌, ◌<◌, length, map, set, position, IfSome};
 ghost use Rattle.bb_verify_effect.specs.Kinds.{struck};

@@ -1,4 +1,4 @@
--- The chains of each level are operands with steps behind them.
+-- The chains of each level are operands with steps after them.
 use Rattle.std.proofs.Common.{◌≡◌, ◌⊎◌, inl, inr, List, Option, Ok, Err, refl, sym, ap, ◌∙◌}
 use Rattle.bb_basis.specs.Results.{◌>>=◌}
 use Rattle.bb_lang.specs.declared.level.Level.{Level}

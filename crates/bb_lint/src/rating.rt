@@ -54,7 +54,7 @@ fn starts_below(floor: i64, source: &Source) -> bool
     parts.require.is_none() && parts.retrigger.is_none() && parts.rate < floor
 }
 
-/// Returns whether every activation of a source stays below the floor; `raised` tells whether a source may create a
+/// Returns whether every activation of a source stays below the floor; `raised` is true if a source may create a
 /// focus.
 pub(crate) fn stays_below(raised: bool, floor: i64, source: &Source) -> bool
     ensures { result ≡ stays_below raised floor source.now }

@@ -42,7 +42,7 @@ module _ (schema : Schema) (place : Place) where
   unfolding part_code block_ends always_ends statements_code statement_code action_code end_code expr_code steps_code atom_code pushed put_value put two_due due if_within is_within sum
   rated = refl
 
-  -- if true: rate 1; behind it decline, where the frame is declared
+  -- if true: rate 1; after it decline, where the frame is declared
   chosen : BlockTree
   chosen = before_others place (if_of (atom (atoms.Bool true)) (before_others place (action (Rate (atom (atoms.Int (pos 1))))) no_statement) absent) (before_others place (action Decline) no_statement)
 

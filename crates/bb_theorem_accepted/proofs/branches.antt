@@ -1,4 +1,4 @@
--- An `if` and a `with`, with an `else` or without, lead the verifier to what stands behind them.
+-- An `if` and a `with`, with an `else` or without, lead the verifier to what stands after them.
 -- For `loops` and `whole`.
 pub mod BranchScopes
 pub mod TestGoes

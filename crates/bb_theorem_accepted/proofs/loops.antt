@@ -1,4 +1,4 @@
--- A `for` leads the verifier from what stands before it to what stands behind its loop.
+-- A `for` leads the verifier from what stands before it to what stands after its loop.
 -- For `whole`.
 pub mod LoopVisits
 pub mod LoopSounds

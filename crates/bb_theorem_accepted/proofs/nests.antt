@@ -1,5 +1,5 @@
 -- The loops of a text are in order, and its ops stand between them as the verifier asks.
--- For `whole`, and by `Laws` for whoever executes the code.
+-- For `whole`, and by `Laws` for crates that execute the code.
 pub mod NestLemmas
 pub mod LoopOrder
 pub mod NestPasses

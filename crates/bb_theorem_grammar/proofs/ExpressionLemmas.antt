@@ -177,7 +177,7 @@ module _ (n : ℕ) (i : Option Inner) (ready : Ready n i) where
       (comma_read (IsPat (suc n)) pattern (λ t _. read t) (AreMorePats (suc n)) (λ _. AreMorePats.no_more_pat) (λ _ _ _ _ _ _ c e more. AreMorePats.more_pats c e more)) t)
       (λ ps u ds. done (ArePats.pats d ds))))
 
-  -- patterns in brackets, behind a word
+  -- patterns in brackets, after a word
   parts_read : (s : State) (Q : List PatternTree → State → Type 0) → ((ps : List PatternTree) (t u v : State) → Opens n (codes "(") s t → ArePats (suc n) ps t u → Takes (codes ")") u v → Q ps v) → Sound s Q (parts i s)
   unfolding parts
   parts_read s Q makes = by_read _ (opened_read n i ready (codes "(") s) (λ inner t o. by_read _ (pats_read inner.pattern o.1.pattern t) (λ ps u d. by_move _ (skip_moves (codes ")") u) (λ v c. done (makes ps t u v o.0 d c))))

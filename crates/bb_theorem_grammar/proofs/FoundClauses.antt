@@ -118,7 +118,7 @@ unfolding reaction_if
 reaction_if_found word o s t IsOptional.missing other = no_is (at word s) _ _ other refl
 reaction_if_found word o s t (IsOptional.there {x = x} d) other = yes_is (at word s) _ _ (here word s (reaction_at word x s t d)) (ok_then _ (reaction_found word x s t d) refl)
 
--- ---- what comes behind a part
+-- ---- what comes after a part
 
 abbrev part_words : List (List ℕ)
 part_words = codes "require" ∷ codes "obviate" ∷ codes "retrigger" ∷ codes "revalidate" ∷ []

@@ -27,7 +27,7 @@ use Rattle.bb_theorem_grammar.proofs.FoundNames.{Stands, is_free, name_others, q
 use Rattle.bb_theorem_grammar.proofs.FoundParts.{fact_ends, term_ends, sum_ends, cmp_ends, conj_ends, expr_ends, seq_ends, none_found, more_found, or_reader, and_reader, term_reader, fact_reader, no_or_found, no_and_found, no_term_found, no_fact_found, or_found, and_found, plus_found, minus_found, times_found, quotient_found, remainder_found, opened_found, part_words, unary_found, binary_found, no_comparison, comparison_found, int_atom, text_atom, true_atom, false_atom, slot_atom, label_atom, variable_atom, variable_first, name_first, int_first}
 use Rattle.bb_theorem_grammar.proofs.FoundProductions.{expr_whole, conj_whole, sum_whole, term_whole, alone_whole, compared_whole, group_whole, pair_whole, sized_whole, parts_whole, part_whole, grouped_fact, interval_fact, size_fact, other_fact, one_by, two_by, atom_fact, all_pat, both_pat, either_pat, neither_pat, tested_whole, tested_pat, where_found, anywhere_found, find_found, links_found, comma_found, no_comma_found, no_items_found, items_found}
 
--- ---- what comes behind an operand
+-- ---- what comes after an operand
 
 ors_after : {n : ℕ} {es : List Step} {s t : State} → AreOrs n es s t → NotAt expr_ends t → NotAt conj_ends s
 ors_after AreOrs.no_or ends = ends.1

@@ -32,7 +32,7 @@ use Rattle.bb_theorem_grammar.specs.Expressions.{IsUnary, IsBinary, IsComparison
 use Rattle.bb_theorem_grammar.proofs.FoundTokens.{next_found, yes_is, no_is, ok_then, here, NotAt, none_pass, missed}
 use Rattle.bb_theorem_grammar.proofs.FoundNames.{Stands, name_at_found, member_found, name_found, is_free, name_others, no_int, no_text, digit_others, quote_others, int_found, divisor_found, text_found}
 
--- ---- what comes behind
+-- ---- what comes after
 
 -- what goes on with an expression without parts, and with each operand
 abbrev pub fact_ends : List (List ℕ)

@@ -140,7 +140,7 @@ module _ (n m : ℕ) (lim : n + m ≡ NESTING_LIMIT) (block : Reader BlockTree) 
   none_whole : (s : State) → s.token ≡ codes "}" → (k : ℕ) → seen block_of (repeated k (next_statement m block) s) ≡ Ok (no_statement, s)
   none_whole s is k = ap (seen block_of) (none_found (next_statement m block) s (ended s is) k)
 
-  -- one more, and those behind it
+  -- one more, and those after it
   placed_whole : (x : StatementTree) (s t : State) (place : WasRead statement_of (statement_in m block s) x t) → at (codes "}") s ≡ false → next_statement m block s ≡ Ok (Some (record { place = s.place; statement = place.value }), t)
   unfolding next_statement
   placed_whole x s t d other = no_is (at (codes "}") s) _ _ other (ok_then _ d.is refl)

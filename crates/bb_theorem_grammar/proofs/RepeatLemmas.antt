@@ -6,7 +6,7 @@ use Rattle.bb_theorem_grammar.specs.Tokens.{Takes}
 use Rattle.bb_theorem_grammar.specs.Repeats.{AreMany, IsNextItem, AreListed}
 use Rattle.bb_theorem_grammar.proofs.SoundLemmas.{Stands, Sound, by_read, by_move, by_if, done, next_moves, takes}
 
--- one more item goes before those behind it; none is an end
+-- one more item goes before those after it; none is an end
 abbrev pub Joins : {X : Type 0} → (List X → State → State → Type 0) → State → Option X → State → Type 0
 Joins Many s None t = Many [] s t
 Joins {X} Many s (Some x) t = (xs : List X) (u : State) → Many xs t u → Many (x ∷ xs) s u
@@ -29,7 +29,7 @@ module _ {X : Type 0} (Many : List X → State → State → Type 0) (ends : (s 
 -- ---- items with commas between them
 
 module _ {X : Type 0} (Item : X → State → State → Type 0) (item : Reader X) (read : (s : State) → Stands s → Sound s (λ x t. Item x s t) (item s)) where
-  -- one more item, where those behind a comma are many
+  -- one more item, where those after a comma are many
   pub comma_read : (Many : List X → State → State → Type 0) → ((s : State) → Many [] s s)
       → ((x : X) (xs : List X) (s t u v : State) → Takes (codes ",") s t → Item x t u → Many xs u v → Many (x ∷ xs) s v)
       → (s : State) → Sound s (Joins Many s) (next_item item s)

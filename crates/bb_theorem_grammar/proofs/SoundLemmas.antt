@@ -17,7 +17,7 @@ use Rattle.bb_theorem_grammar.proofs.TokenLemmas.{blanks_passed, AreAt, token_fo
 abbrev pub Stands : State → Type 0
 Stands s = IsToken s.rest s.kind s.token
 
--- what a reader gives holds, the text behind it is no longer than that before, and what was read is tokens
+-- what a reader gives holds, the text after it is no longer than that before, and what was read is tokens
 pub record Sound {X : Type 0} (s : State) (P : X → State → Type 0) (r : Result (X × State) LangFault) : Type 0 where
   pub holds : (x : X) (t : State) → r ≡ Ok (x, t) → P x t
   pub later : (x : X) (t : State) → r ≡ Ok (x, t) → left t ≤ left s
@@ -142,7 +142,7 @@ next_moves s = record {
   cut = λ t h c. next_cut s t (next_is s t h) c;
 }
 
--- the text behind the token, where what is read is shorter than what it began with
+-- the text after the token, where what is read is shorter than what it began with
 abbrev pub behind : State → State
 behind s = record s { token = [] }
 

@@ -56,7 +56,7 @@ blanks_passed bs = between false bs
 
 -- ---- words and numbers
 
--- all of a front pass a test, and what stands behind it does not
+-- all of a front pass a test, and what stands after it does not
 abbrev IsRun : (ℕ → Bool) → List ℕ → ℕ → Type 0
 IsRun p xs n = (list_all p (take n xs) ≡ true) × (first_passes p (drop n xs) ≡ false)
 
@@ -89,7 +89,7 @@ int_is b bs is =
 abbrev HasValue : List ℕ → Type 0
 HasValue bs = (value : List ℕ) × IsQuoted value bs
 
--- behind a quote, or behind a backslash
+-- after a quote, or after a backslash
 abbrev Quoted : Bool → List ℕ → Type 0
 Quoted true bs = HasValue (92 ∷ bs)
 Quoted false bs = HasValue bs

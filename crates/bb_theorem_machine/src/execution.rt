@@ -31,7 +31,7 @@ use std::alloc::Global;
 ///
 /// `Memory` can happen at any op; the blackboard is then as after the ops before it, but may accept no more changes.
 /// `Full` happens only if no more units can be created. A code without ops that write leaves the blackboard unchanged,
-/// whatever the outcome. A unit that no new note names keeps its class and its values, the schema is unchanged, and no
+/// for any outcome. A unit that no new note names keeps its class and its values, the schema is unchanged, and no
 /// number of a unit is used again.
 ///
 /// A code accepted for a part never goes wrong if the entry fits the part (`Begins`): every state suits the frame of

@@ -240,7 +240,7 @@ module _ (schema : Schema) (sf : schemas.Fits schema) (code : Code) where
         by_place None is h =
             more_text text s t i (guard_ok (nat_le TEXT_COUNT_LIMIT (length s.texts)) (At Limit s.start) (Ok (length s.texts, record s { texts = s.texts ++ text ∷ [] })) (i, t) h).1
 
-    -- what stands behind a buffer that has a text more
+    -- what stands after a buffer that has a text more
     after_text : (text : List ℕ) (s u t : Buffer) (i : ℕ) (made : Option Kind) (value : Meaning Value) → HasText text s u i → Means code start u t made (λ b names. value) → Means code start s t made (λ b names. value)
     after_text text s u t i made value has m = record {
       grown = grown_on s u t has.0 m.grown;

@@ -1,4 +1,4 @@
--- A test and the blocks behind it do what they mean, and so do statements one after another.
+-- A test and the blocks after it do what they mean, and so do statements one after another.
 use Rattle.std.proofs.Common.{◌≡◌, ◌⊎◌, inl, inr, ℕ, ◌≤◌, Bool, true, false, cond, List, [], ◌∷◌, length, Option, Ok, refl, subst, sym, ap, ◌∙◌, arith}
 use Rattle.std.specs.Prelude.{take}
 use Rattle.bb_basis.specs.Results.{◌>>=◌}
@@ -40,7 +40,7 @@ tidy_kept s t names keeps tidy = record {
   apart = subst AreApart (sym names) tidy.apart;
 }
 
--- the kinds behind a block, where the block may have ended
+-- the kinds after a block, where the block may have ended
 met_keeps : (ks one other now : List Kind) (ended : Bool) → Keeps ks one → Keeps ks other → now ≡ cond ended one (kinds_met one other) → Keeps ks now
 met_keeps ks one other now true first second is = subst (Keeps ks) (sym is) first
 met_keeps ks one other now false first second is = subst (Keeps ks) (sym is) (keeps_met ks one other first second)
@@ -63,13 +63,13 @@ module _ (schema : Schema) (sf : schemas.Fits schema) (part : Part) (code : Code
   placed_as : (n m : ℕ) (ns ks : List NamedLocal) (r : Meaning Scene) → n ≡ m → ns ≡ ks → GetsAt n ns r → GetsAt m ks r
   placed_as n m ns ks r place names g = subst (λ k. GetsAt m k r) names (subst (λ i. GetsAt i ns r) place g)
 
-  -- ---- a test, and the first block behind it
+  -- ---- a test, and the first block after it
 
   module _ (test : Scene → Meaning (Option Scene)) (first : BlockTree) (loops : ℕ) (s u v : Buffer) (exits : Exits) (gd : Guard s u exits) (g : Grown u v) (tests : Has code gd.behind → Tests code start s u exits gd test) (own : Has code v → Acts code start u v (statements first)) where
     abbrev a : Buffer
     a = gd.behind
 
-    -- behind the test, before a name is declared
+    -- after the test, before a name is declared
     abbrev r : Buffer
     r = gd.tested
 
@@ -104,7 +104,7 @@ module _ (schema : Schema) (sf : schemas.Fits schema) (part : Part) (code : Code
           (λ after next c' is. onward scene after (held_count st.0.locals s.scope.names scene.names here.held ∙ ap length (sym names)) (block.gets (tidy_inner tidy) next after c' is))
           (λ next c' is. elsewhere scene next c' (subst (λ ns. IsScene at ns scene next) (sym names) is))
 
-      -- the first block goes on behind its names, and behind that of the test
+      -- the first block goes on after its names, and after that of the test
       first_left : IsTidy s.scope → (scene after : Scene) → length scene.names ≡ length r.scope.names → GetsAt (length v.ops) v.scope.names (statements first after) → GetsAt (length v.ops) r.scope.names (left scene (statements first after))
       first_left tidy scene after count got =
           let moves = moves_on r.scope u.scope v.scope m.moves (block.moves (tidy_inner tidy)) in
@@ -294,7 +294,7 @@ module _ (schema : Schema) (sf : schemas.Fits schema) (part : Part) (code : Code
     gets = λ tidy st scene c here. subst (GetsAt (length t.ops) t.scope.names) (same scene) (acts.gets tidy st scene c here);
   }
 
-  -- a test and the blocks behind it
+  -- a test and the blocks after it
   module _ (test : Scene → Meaning (Option Scene)) (first : BlockTree) (loops : ℕ) (s t : Buffer) (now : Bool) where
     pub one_does : (br : Branches schema part loops first absent s t now) → (Has code br.guard.behind → Tests code start s br.inner br.exits br.guard test) → Grown br.inner br.blocks.end → (Has code br.blocks.end → Acts code start br.inner br.blocks.end (statements first)) → Has code t
         → Acts code start s t (λ scene. test scene >>= chosen (statements first) (λ sc. Ok sc) scene)

@@ -73,7 +73,7 @@ module _ (code : Code) (start : State) where
   unfolding step
   jump_on at m b = refl
 
-  -- a jump behind a block goes ahead
+  -- a jump after a block goes ahead
   pub jump_gets : (ns : List NamedLocal) (n at : ℕ) (r : Meaning Scene) → n + 1 ≤ at → slice_get code.ops n ≡ Some (ops.Jump at) → Gets code start (IsScene n ns) r n → Gets code start (IsScene at ns) r at
   jump_gets ns n at r ahead there (Ok st, c, l) = (
     Ok (go_to at (go_to (n + 1) st.0), st.1),
@@ -88,7 +88,7 @@ module _ (code : Code) (start : State) where
       ends_alike (halts.Stuck reason, b) h = h
       ends_alike (halts.Memory, b) h = h
 
-  -- a block that always ends is not left, wherever what stands behind it ends
+  -- a block that always ends is not left, wherever what stands after it ends
   pub never_gets : (P Q : Scene → State → Type 0) (n at : ℕ) (r : Meaning Scene) (f : Scene → Meaning Scene) → n ≤ at → Never r → Gets code start P r n → Gets code start Q (r >>= f) at
   never_gets P Q n at r f le never (Ok st, c, l) = absurd (never l.0 l.1)
   never_gets P Q n at r f le never (Err e, c, l) = (Err e, ended_by code start n at e le c, leaves_on P Q r f e l)

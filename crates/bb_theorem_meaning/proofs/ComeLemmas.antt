@@ -153,7 +153,7 @@ module _ (code : Code) (start : State) where
   abbrev pub Stays : ℕ → State → Type 0
   Stays n st = AllFit → (l : ℕ) → Spares code start.0.place n l → slice_get st.0.locals l ≡ slice_get start.0.locals l
 
-  -- what came at a place, from a start that is not behind it; or the op with which the execution ended
+  -- what came at a place, from a start that is not after it; or the op with which the execution ended
   abbrev pub Comes : ℕ → Came → Type 0
   Comes n (Ok next) = (next.0.place ≡ n) × (j : ℕ) × (start.0.place ≤ n) × (after j code start ≡ Some next) × Stays n next
   Comes n (Err (halt, b)) = (j : ℕ) × (last : State) × (op : Op) × (after j code start ≡ Some last) × (slice_get code.ops last.0.place ≡ Some op) × (step code op (go_to (last.0.place + 1) last.0, last.1) ≡ Err halt) × (last.1 ≡ b)

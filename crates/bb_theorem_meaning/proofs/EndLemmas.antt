@@ -1,4 +1,4 @@
--- A block that always ends comes to an end, so what stands behind it is never reached.
+-- A block that always ends comes to an end, so what stands after it is never reached.
 use Rattle.std.proofs.Common.{◌≡◌, Bool, true, false, cond, ◌||◌, List, ℕ, Option, Some, None, Ok, Err, length, refl}
 use Rattle.std.specs.Prelude.{take}
 use Rattle.bb_basis.proofs.BoolLemmas.{and_first, and_second}

@@ -133,7 +133,7 @@ all_operands (k ∷ ks) (v ∷ vs) count = by_first (one_operand k v) (all_opera
     by_first (inr none) rest = inr (rw none refl)
 
 module _ (schema : Schema) (code : Code) (start : State) (good : (n : ℕ) (st : State) → Comes code start n (Ok st) → Good schema st.1) where
-  -- what a pattern is by its text, behind the values of other operands
+  -- what a pattern is by its text, after the values of other operands
   abbrev pub Pattern₁ : Type 0 → Type 0
   Pattern₁ X = Board → List Name → (space : ℕ) → List Value → Meaning (X × List Value)
 
@@ -167,7 +167,7 @@ module _ (schema : Schema) (code : Code) (start : State) (good : (n : ℕ) (st :
         (λ x next here r. gets_none code start (Ready (length t.ops) base (f made) after) (f x.0, x.1) (length t.ops) next here (record { tree = ap f r.tree; piled = r.piled; count = r.count }));
   }
 
-  -- a pattern, and others behind it
+  -- a pattern, and others after it
   pub asks_on : {X Y Z : Type 0} (f : X → Y → Z) (s t u : Buffer) (space : Option ℕ) (asked between after : Asked) (one : X) (more : Y) (p : Pattern₁ X) (q : Pattern₁ Y) → Asks s t space asked between one p → Asks t u space between after more q
       → Asks s u space asked after (f one more) (λ b names k vs. p b names k vs >>= λ x. q b names k x.1 >>= λ y. Ok (f x.0 y.0, y.1))
   asks_on {X} {Y} f s t u space asked between after one more p q first then = record {
@@ -191,7 +191,7 @@ module _ (schema : Schema) (code : Code) (start : State) (good : (n : ℕ) (st :
   pub node_free : (asked : Asked) (s : Buffer) → Clean (node_noted asked s) → node_noted asked s ≡ s
   node_free asked s clean = (not_failed (asked.nodes == 0) Limit s clean).1
 
-  -- behind a node of a pattern
+  -- after a node of a pattern
   pub asks_node : {X : Type 0} (s t : Buffer) (space : Option ℕ) (asked after : Asked) (made : X) (pattern : Pattern₁ X) → Asks (node_noted asked s) t space (node_counted asked) after made pattern → Asks s t space asked after made pattern
   asks_node s t space asked after made pattern m =
       let n = asks_as s (node_noted asked s) t space (node_counted asked) after made pattern (node_free asked s) m in
@@ -328,7 +328,7 @@ module _ (schema : Schema) (code : Code) (start : State) (good : (n : ℕ) (st :
         by_pop (inr none) =
             subst (λ r. Leaves (Pushed n base) says (done_on b (keeps b (r >>= λ p. right_query b q >>= λ _. operands_due q.kinds p.0 >>= λ ds. push_found (answer b.schema b.world.units b.world.spaces q ds) p.1)))) (sym none) tt
 
-    -- a query behind its operands
+    -- a query after its operands
     pub find_means : (room : ℕ) (s t u : Buffer) (found : Option ℕ) (value : Pattern₁ Tree) → (Clean t → Has code t → Asks s t (Some space) no_operand asked pattern value)
         → query_code (Some class) (Some space) asked pattern room t ≡ Ok (found, u) → Clean u → Has code u
         → Means code start s u (Some kinds.Int) (λ b names. (value b names space [] >>= found_by b) >>= as_sequence)

@@ -116,7 +116,7 @@ partner_slot_ok s c name q h =
     by_many slot link false h = ap (λ (p : ℕ × ℕ). p.0) (same_ok (slot, link.to) q h)
 
 module _ (schema : Schema) (sf : schemas.Fits schema) (code : Code) (start : State) (good : (n : ℕ) (st : State) → Comes code start n (Ok st) → Good schema st.1) where
-  -- ---- behind what was tested
+  -- ---- after what was tested
 
   module _ (name : List ℕ) (s t u : Buffer) (of : ℕ) (scope_t : t.scope ≡ s.scope) (declared : declare name (kinds.Ref of) t ≡ Ok u) (w : Buffer) (f : Option Scene → Meaning Scene) (at : ℕ) (has_u : Has code u) (tidy : IsTidy s.scope) (low : length t.ops ≤ at) (high : at ≤ length w.ops)
       (le : length u.ops ≤ length w.ops) (sc : Scene) (onward : (after : Scene) (next : State) → Comes code start (length u.ops) (Ok next) → IsScene (length u.ops) u.scope.names after next → Gets code start (IsScene (length w.ops) w.scope.names) (f (Some after)) (length w.ops))

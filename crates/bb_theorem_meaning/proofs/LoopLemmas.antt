@@ -207,7 +207,7 @@ module _ (schema : Schema) (sf : schemas.Fits schema) (part : Part) (code : Code
       abbrev m : Machine
       m = go_to (head + 1) st.0
 
-      -- behind the head
+      -- after the head
       abbrev st1 : State
       st1 = (with_stack (One n ∷ []) (with_local l (Seq rest) (emptied l m)), st.1)
 

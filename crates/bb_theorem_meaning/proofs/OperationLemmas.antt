@@ -154,7 +154,7 @@ module _ (code : Code) where
 
   -- ---- two operands
 
-  -- a buffer has no flaw before an operation where it has none behind it
+  -- a buffer has no flaw before an operation where it has none after it
   op_clean : (op : Op) (s t : Buffer) → t ≡ with_op op s → Clean t → Clean s × Grown s t
   op_clean op s t is clean = (clean_before op s t is clean, grown_op op s t is)
 

@@ -160,7 +160,7 @@ module _ (part : Part) (frames : List Frame) (code : Code) (entry : Entry) (b : 
       absurd (not_stuck limit reason (c.0 + 1) c.1.0.found c.1.1 budgeted (at_limit limit c.0 c.1 c.2 (halts.Stuck reason) budgeted c.3 c.4 c.5))
   told r P n limit halts.Memory left budgeted c h = absurd h
 
-  -- ---- behind the last statement
+  -- ---- after the last statement
 
   done_on : (m : Machine) (left : Board) → step code ops.Done (m, left) ≡ answered Done
   unfolding step

@@ -25,13 +25,13 @@ use Rattle.bb_theorem_meaning.proofs.KeepLemmas.{Moves, moves_same}
 use Rattle.bb_theorem_meaning.proofs.ActLemmas.{IsTidy, IsScene, act_in}
 use Rattle.bb_theorem_meaning.proofs.BranchLemmas.{after_test}
 
--- what a text does behind a test: the first block where the test leaves a scene, and the other where it leaves none
+-- what a text does after a test: the first block where the test leaves a scene, and the other where it leaves none
 abbrev pub chosen : (first other : Scene → Meaning Scene) → Scene → Option Scene → Meaning Scene
 chosen first other s None = other s
 chosen first other s (Some t) = left s (first t)
 
 module _ (code : Code) (start : State) where
-  -- from the scene before a test to the one behind it, or to the place where its ops go that go elsewhere
+  -- from the scene before a test to the one after it, or to the place where its ops go that go elsewhere
   abbrev pub Chooses : (s u behind tested : Buffer) → List Op → (test : Scene → Meaning (Option Scene)) → Type 0
   Chooses s u behind tested es test =
       (t : Buffer) (f : Option Scene → Meaning Scene) (at : ℕ) → Grown behind t → AreAimed code at (length behind.ops) es → Has code u → IsTidy s.scope → length tested.ops ≤ at → at ≤ length t.ops → length u.ops ≤ length t.ops

@@ -91,7 +91,7 @@ module _ (schema : Schema) (sf : schemas.Fits schema) (code : Code) (start : Sta
           })
           has (deletes code start s.scope.names)
 
-  -- an op behind a unit
+  -- an op after a unit
   unit_act : (op : Op) (P : Board → Type 0) (v : Variable) (s u t : Buffer) (class : Option ℕ) (f : Scene → Value → Meaning Scene) → ((n : ℕ) (st : State) → Comes code start n (Ok st) → P st.1) → MeansUnit v s u class → t ≡ with_op op u → is_open op ≡ false → Has code t
       → ((ns : List NamedLocal) → OneLeaf code start ns op P f) → Does s t (λ scene. named (name_of v) scene.names >>= f scene)
   unit_act op P v s u t class f right m is closed has leaf =

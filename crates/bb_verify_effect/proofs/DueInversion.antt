@@ -13,7 +13,7 @@ use Rattle.bb_code.specs.declared.flaw.Flaw.TheVariants as flaws
 use Rattle.bb_verify_effect.specs.Kinds.{is_same_plain}
 use Rattle.bb_verify_effect.specs.Due.{due, label_of, class_of, live, sequence_of, held_in, plain_kind, link_kind, plain_slot, link_slot, single_slot, value_due}
 
--- a test passed, and what comes behind it is the answer
+-- a test passed, and what comes after it is the answer
 pub test_ok : {A E : Type 0} (b : Bool) (e : E) (r : Result A E) (y : A) → (if b then r else Err e) ≡ Ok y → (b ≡ true) × (r ≡ Ok y)
 test_ok true e r y h = (refl, h)
 test_ok false e r y h = absurd cc

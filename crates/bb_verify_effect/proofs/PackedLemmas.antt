@@ -1,4 +1,4 @@
--- Frames that lie one behind the other.
+-- Frames that lie one after the other.
 use Rattle.std.proofs.Common.{◌≡◌, ℕ, ◌-◌, ◌≤◌, All, List, [], ◌∷◌, ◌++◌, length, take, drop, map, refl, ap, ◌∙◌, arith, length-drop}
 use Rattle.std.proofs.lemmas.List.{take-append-le, drop-append-le, map_push}
 use Rattle.std.proofs.lemmas.List.Elements.{All-head, All-tail}

@@ -1,5 +1,5 @@
--- Where the ops of a test and of the blocks behind it stand, once all of them are aimed. A test has one op that goes
--- elsewhere, or two, one behind the other.
+-- Where the ops of a test and of the blocks after it stand, once all of them are aimed. A test has one op that goes
+-- elsewhere, or two, one after the other.
 use Rattle.std.proofs.Common.{◌≡◌, ℕ, zero, suc, ◌+◌, ◌≤◌, Bool, true, false, List, [], ◌∷◌, ◌++◌, length, Some, refl, sym, ap, ◌∙◌, arith, length-append, append_assoc}
 use Rattle.std.specs.Prelude.{slice_get, ◌==◌}
 use Rattle.std.proofs.Math.Seq.{set-append_seam}
@@ -24,7 +24,7 @@ pub aimed_seam : (xs ys : List Op) (op : Op) → aimed_at (length xs) (xs ++ op 
 aimed_seam xs ys op =
     ap (with_aimed (xs ++ op ∷ ys) (length xs)) (seam xs ys op) ∙ set-append_seam xs op ys (aimed op (length (xs ++ op ∷ ys)))
 
--- ---- ops that are aimed, one behind the other
+-- ---- ops that are aimed, one after the other
 
 abbrev pub all_aimed : List Op → (at : ℕ) → List Op
 all_aimed [] at = []
@@ -59,7 +59,7 @@ aims_seam xs (e ∷ es) ys =
     ∙ (ap (λ k. aims k (length es) (front ++ (es ++ ys))) (sym place)
     ∙ (aims_seam front es ys ∙ (ap (λ k. front ++ (all_aimed es k ++ ys)) count ∙ append_assoc xs (aimed e n ∷ []) (all_aimed es n ++ ys))))
 
--- where open ops are aimed and others come behind, each op that is not open stays at its place
+-- where open ops are aimed and others come after, each op that is not open stays at its place
 closed_stays : (xs es ps ys zs : List Op) (i : ℕ) (op : Op) → length es ≡ length ps → AreOpen es → slice_get (xs ++ (es ++ ys)) i ≡ Some op → is_open op ≡ false → slice_get (xs ++ (ps ++ (ys ++ zs))) i ≡ Some op
 closed_stays [] [] [] [] zs i op count opens at closed = absurd cc
 closed_stays [] [] [] (y ∷ ys) zs zero op count opens at closed = at
@@ -86,7 +86,7 @@ has_aimed code v t xs es ps ys zs count opens was is g h = record {
 pub same_more : (v t : Buffer) → t.texts ≡ v.texts → t.queries ≡ v.queries → Grown v (record t { ops = v.ops })
 same_more v t x q = record { ops = []; ops_are = sym (append-nil v.ops); texts = []; texts_are = x ∙ sym (append-nil v.texts); queries = []; queries_are = q ∙ sym (append-nil v.queries) }
 
--- so has one that is behind another block
+-- so has one that is after another block
 pub more_after : (v x y t : Buffer) → x.texts ≡ v.texts → x.queries ≡ v.queries → Grown x y → t.texts ≡ y.texts → t.queries ≡ y.queries → Grown v (record t { ops = v.ops })
 more_after v x y t x_texts x_queries h t_texts t_queries = record {
   ops = [];
@@ -132,7 +132,7 @@ each_aimed code at place (e ∷ es) opens each = (
 cut_at : (xs ps ys zs : List Op) → (xs ++ (ps ++ ys)) ++ zs ≡ xs ++ (ps ++ (ys ++ zs))
 cut_at xs ps ys zs = append_assoc xs (ps ++ ys) zs ∙ ap (λ l. xs ++ l) (append_assoc ps ys zs)
 
--- behind a test, of which ops go to a place ahead, comes a block
+-- after a test, of which ops go to a place ahead, comes a block
 module _ (a u v : Buffer) (es : List Op) (some : 1 ≤ length es) (put_ops : u.ops ≡ a.ops ++ es) (put_texts : u.texts ≡ a.texts) (put_queries : u.queries ≡ a.queries) (g : Grown u v) where
   pub block_ops : v.ops ≡ a.ops ++ (es ++ g.ops)
   block_ops = g.ops_are ∙ (ap (λ l. l ++ g.ops) put_ops ∙ append_assoc a.ops es g.ops)
@@ -156,7 +156,7 @@ module _ (a u v : Buffer) (es : List Op) (some : 1 ≤ length es) (put_ops : u.o
   pub block_count : length a.ops + 1 ≤ length v.ops
   block_count = let count = block_places in omega (arith, count, some)
 
-  -- they are aimed, and there are more behind the block
+  -- they are aimed, and there are more after the block
   module _ (t : Buffer) (at : ℕ) (more : List Op) (is : t.ops ≡ a.ops ++ (all_aimed es at ++ (g.ops ++ more))) (h : Grown v (record t { ops = v.ops })) where
     unfoldable pub aims_grown : Grown a t
     aims_grown = record {
@@ -184,7 +184,7 @@ module _ (a u v : Buffer) (es : List Op) (some : 1 ≤ length es) (put_ops : u.o
         (λ i o own going.
         has.ops (length a.ops + i) (aimed o at) (ap (λ l. slice_get l (length a.ops + i)) is ∙ there_at a.ops (all_aimed es at) (g.ops ++ more) i (aimed o at) (all_at es i o at own)) (closed_aimed o at going ahead))
 
-  -- they are aimed behind the block
+  -- they are aimed after the block
   pub aimed_behind : aims (length a.ops) (length es) v.ops ≡ a.ops ++ (all_aimed es (length v.ops) ++ (g.ops ++ []))
   aimed_behind =
       ap (aims (length a.ops) (length es)) block_ops ∙ (aims_seam a.ops es g.ops
@@ -198,13 +198,13 @@ module _ (a u v : Buffer) (es : List Op) (some : 1 ≤ length es) (put_ops : u.o
       let block = block_places in
       omega (arith, whole, none, block)
 
-  -- another block comes right behind
+  -- another block comes right after
   pub aimed_before : (x y : Buffer) → x.ops ≡ aims (length a.ops) (length es) v.ops → (h : Grown x y) → y.ops ≡ a.ops ++ (all_aimed es (length v.ops) ++ (g.ops ++ h.ops))
   aimed_before x y is h =
       h.ops_are ∙ (ap (λ l. l ++ h.ops) (is ∙ (aimed_behind ∙ ap (λ l. a.ops ++ (all_aimed es (length v.ops) ++ l)) (append-nil g.ops)))
       ∙ cut_at a.ops (all_aimed es (length v.ops)) g.ops h.ops)
 
-  -- a jump over another block comes behind, and then that block
+  -- a jump over another block comes after, and then that block
   module _ (x y t : Buffer) (x_is : x.ops ≡ aims (length a.ops) (length es) (v.ops ++ ops.Jump 0 ∷ [])) (h : Grown x y) (t_is : t.ops ≡ aimed_at (length v.ops) y.ops) where
     abbrev jump : List Op
     jump = ops.Jump 0 ∷ []

@@ -1,4 +1,4 @@
--- What a block lays out, by the answer of the compiler alone: it only adds, and so does a test with the blocks behind
+-- What a block lays out, by the answer of the compiler alone: it only adds, and so does a test with the blocks after
 -- it.
 use Rattle.std.proofs.Common.{◌≡◌, ◌⊎◌, inl, inr, ℕ, ◌+◌, ◌<◌, ◌≤◌, Bool, true, false, cond, length, List, [], ◌∷◌, ◌++◌, Some, Ok, refl, sym, ap, ◌∙◌, arith, length-append}
 use Rattle.std.proofs.lemmas.List.{append-nil}
@@ -99,19 +99,19 @@ lays_then s t u a l =
       marks = λ p low high. l.marks p (omega (arith, more, low)) high ∙ a.marks p low;
     }
 
--- a label behind a buffer leaves those before
+-- a label after a buffer leaves those before
 pub marks_before : (w t : Buffer) (n p : ℕ) (ks : List Kind) → t.labels ≡ kept w.labels w.last n → t.last ≡ Some (record { place = n; kinds = ks }) → p < n → label_at (labels_of t) p ≡ label_at (labels_of w) p
 marks_before w t n p ks labels last lt =
     ap (λ l. label_at (listed l t.last) p) labels ∙ (ap (λ o. label_at (listed (kept w.labels w.last n) o) p) last
     ∙ (labelled_at w.labels w.last n ks p ∙ ap (λ b. cond b (Some ks) (label_at (labels_of w) p)) (other_place n p (λ e. absurd (omega (arith, e, lt))))))
 
--- ---- a test and the blocks behind it
+-- ---- a test and the blocks after it
 
 module _ (s u v : Buffer) (exits : Exits) (gd : Guard s u exits) (block : Lays u v) where
   abbrev base : Buffer
   base = gd.behind
 
-  -- what comes behind the test, up to the end of the first block
+  -- what comes after the test, up to the end of the first block
   abbrev whole : Grown gd.tested v
   whole = grown_on gd.tested u v gd.named block.grown
 

@@ -82,14 +82,14 @@ module _ (schema : Schema) (part : Part) (loops : ℕ) where
     pub test_is : TestLaid schema test s inner exits
     pub blocks : BlocksLaid (mark_of inner.scope) exits first other inner t now
 
-  -- behind the name that a `with` declares
+  -- after the name that a `with` declares
   pub record WithLaid (binding : Binding) (place : Place) (first : BlockTree) (other : OtherwiseTree) (s t : Buffer) (now : Bool) : Type 0 where
     pub exits : Exits
     pub inner : Buffer
     pub test_is : with_code schema binding place s ≡ Ok (exits, inner)
     pub blocks : BlocksLaid (mark_of s.scope) exits first other inner t now
 
-  -- the blocks behind a test, before which the scope had this mark
+  -- the blocks after a test, before which the scope had this mark
   blocks_laid : (before : Mark) (exits : Exits) (first : BlockTree) (other : OtherwiseTree) (u t : Buffer) (now : Bool)
       → ((statements_code schema part loops false first u >>= left (mark_of u.scope)) >>= λ q. otherwise_code schema part loops (record { before = before; exits = exits; ended = q.0 }) other (leave before q.1)) ≡ Ok (now, t)
       → BlocksLaid before exits first other u t now

@@ -59,7 +59,7 @@ calm_put s u t op scope locals g le is calm = record {
   calm = calm_on s.scope.kinds g.adds.grown.ops (op ∷ []) (are_calm s.scope.kinds g.adds.grown.ops g.quiet) (calm, tt);
 }
 
--- behind what goes on to the next op
+-- after what goes on to the next op
 calm_from : (s w t : Buffer) → Stays s w → Calm w t → Calm s t
 unfolding adds_on grown_on
 calm_from s w t g c = record {
@@ -203,7 +203,7 @@ module _ (schema : Schema) where
   exits_so held class a t exits (inr (inl alive)) = (refl, tt)
   exits_so held class a t exits (inr (inr both)) = (refl, (refl, tt))
 
-  -- a name for a local that is free behind a test
+  -- a name for a local that is free after a test
   named_calm : (s t u : Buffer) (name : List ℕ) (kind : Kind) → t.scope ≡ s.scope → (h : declare name kind t ≡ Ok u) → AreCalm s.scope.kinds (ops.Store (declare_is name kind t u h).0 ∷ [])
   named_calm s t u name kind scope h =
       let d = declare_is name kind t u h in

@@ -49,7 +49,7 @@ pub labelled_same : (x : Buffer) → (let y = labelled x in (y.ops ≡ x.ops) ×
 unfolding labelled
 labelled_same x = (refl, refl, refl, refl, refl, refl)
 
--- what stands in a list also stands where one more comes behind it, and what is open is aimed
+-- what stands in a list also stands where one more comes after it, and what is open is aimed
 put_has : (xs ys zs : List Op) (x y : Op) (i : ℕ) (op : Op) → is_open x ≡ true → is_open op ≡ false → slice_get (xs ++ x ∷ ys) i ≡ Some op → slice_get (xs ++ y ∷ (ys ++ zs)) i ≡ Some op
 put_has [] ys zs x y zero op opens closed at = absurd (let e : x ≡ op = (let s : Some x ≡ Some op = at in cc) in let no : true ≡ false = sym opens ∙ (ap is_open e ∙ closed) in cc)
 put_has [] ys zs x y (suc i) op opens closed at = behind ys i at
@@ -90,7 +90,7 @@ module _ (schema : Schema) (part : Part) (loops : ℕ) (name : List ℕ) (sequen
   pub inner_clean : Clean f.inner
   inner_clean = ap (λ (x : Buffer). x.flaw) inner_is ∙ (head_flaw ∙ (ap (λ (x : Buffer). x.flaw) q.is ∙ q.clean))
 
-  -- the end of the body, and what is put behind it
+  -- the end of the body, and what is put after it
   abbrev pub left : Buffer
   left = leave (mark_of f.inner.scope) f.end
 
@@ -124,7 +124,7 @@ module _ (schema : Schema) (part : Part) (loops : ℕ) (name : List ℕ) (sequen
         ∙ (append_assoc ((hd.head.ops ++ ops.Next f.local 0 ∷ []) ++ ops.Store stored ∷ []) more (ops.Back f.begun.head ∷ [])
         ∙ (append_assoc (hd.head.ops ++ ops.Next f.local 0 ∷ []) (ops.Store stored ∷ []) (more ++ ops.Back f.begun.head ∷ []) ∙ append_assoc hd.head.ops (ops.Next f.local 0 ∷ []) (ops.Store stored ∷ (more ++ ops.Back f.begun.head ∷ []))))
 
-    -- the place behind the loop
+    -- the place after the loop
     abbrev pub over : ℕ
     over = length returned.ops
 

@@ -171,7 +171,7 @@ module _ (schema : Schema) where
       let is = unit_ok unit STACK_LIMIT s laid.behind (Some laid.class) laid.code_is (head_guard (bindings.Linked name unit slot) s u exits laid clean).clean_behind in
       ap (λ (x : Buffer). x.scope) laid.put_is ∙ ap (λ (x : Buffer). x.scope) is.2.2
 
--- ---- a test and the blocks behind it
+-- ---- a test and the blocks after it
 
 module _ (schema : Schema) (part : Part) (loops : ℕ) where
   pub record Branches (first : BlockTree) (other : OtherwiseTree) (s t : Buffer) (now : Bool) : Type 0 where
@@ -194,7 +194,7 @@ module _ (schema : Schema) (part : Part) (loops : ℕ) where
         blocks = subst (λ (c : Scope). BlocksLaid schema part loops (mark_of c) laid.exits first other laid.inner t now) (sym (head_scope schema binding s laid.inner laid.exits head.0 head.1)) laid.blocks;
       }
 
-  -- the buffer behind the first block, where its names are forgotten
+  -- the buffer after the first block, where its names are forgotten
   abbrev pub behind_first : (first : BlockTree) (other : OtherwiseTree) (s t : Buffer) (now : Bool) → Branches first other s t now → Buffer
   behind_first first other s t now br = leave (mark_of br.guard.tested.scope) (leave (mark_of br.inner.scope) br.blocks.end)
 

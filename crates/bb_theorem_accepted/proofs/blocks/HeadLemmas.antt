@@ -28,7 +28,7 @@ use Rattle.bb_theorem_accepted.proofs.buffers.BufferLemmas.{Clean, with_op, put_
 use Rattle.bb_theorem_accepted.proofs.buffers.PutLemmas.{pair_ok}
 use Rattle.bb_theorem_accepted.proofs.blocks.BranchLemmas.{settled_clean}
 
--- the exits of two ops, one behind the other
+-- the exits of two ops, one after the other
 abbrev pub two_exits : (first second : ℕ) → Exits
 two_exits first second = record { first = first; second = Some second }
 

@@ -70,7 +70,7 @@ module _ (schema : Schema) (part : Part) where
   mutual
     unfolding statements_code statement_code otherwise_code
 
-    -- a statement with a flaw is refused, so there is none behind a block
+    -- a statement with a flaw is refused, so there is none after a block
     pub block_clean : (b : BlockTree) (loops : ℕ) (was now : Bool) (s t : Buffer) → Clean s → statements_code schema part loops was b s ≡ Ok (now, t) → Clean t
     block_clean no_statement loops was now s t clean h = ap (λ (x : Buffer). x.flaw) (sym (pair_ok was now s t h).1) ∙ clean
     block_clean (before_others place x others) loops was now s t clean h =

@@ -1,4 +1,4 @@
--- What an `if` or a `with` without `else` lays out leads the verifier to what stands behind it, where its test and its
+-- What an `if` or a `with` without `else` lays out leads the verifier to what stands after it, where its test and its
 -- block do so.
 use Rattle.std.proofs.Common.{◌≡◌, inl, ℕ, ◌+◌, ◌<◌, ◌≤◌, Bool, true, false, List, [], ◌++◌, length, Option, Some, None, Ok, refl, subst, sym, ap, ◌∙◌, arith, append_assoc}
 use Rattle.std.specs.Prelude.{option_map}
@@ -52,7 +52,7 @@ module _ (schema : Schema) (sf : schemas.Fits schema) (part : Part) (code : Code
     abbrev a : Buffer
     a = gd.behind
 
-    -- behind the test, before a name is declared
+    -- after the test, before a name is declared
     abbrev r : Buffer
     r = gd.tested
 

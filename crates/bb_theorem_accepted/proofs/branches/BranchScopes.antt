@@ -1,4 +1,4 @@
--- What holds of a buffer behind an `if` or a `with`: its labels, its names and what is known of the locals.
+-- What holds of a buffer after an `if` or a `with`: its labels, its names and what is known of the locals.
 use Rattle.std.proofs.Common.{◌≡◌, ◌⊎◌, inl, inr, ℕ, ◌+◌, ◌≤◌, Bool, true, false, cond, List, ◌++◌, length, Option, Some, None, refl, subst, sym, ap, ◌∙◌}
 use Rattle.std.specs.Prelude.{take}
 use Rattle.std.proofs.Math.Seq.{take-append_seam}
@@ -39,7 +39,7 @@ module _ (schema : Schema) (sf : schemas.Fits schema) (part : Part) (code : Code
   abbrev Fitting : Frame → List Kind → Type 0
   Fitting f ks = HasFrame schema sf part code f ks
 
-  -- a label stands behind a buffer
+  -- a label stands after a buffer
   pub labelled_here : (v t : Buffer) (n : ℕ) → length t.ops ≡ n → t.labels ≡ kept v.labels v.last n → t.last ≡ Some (record { place = n; kinds = t.scope.kinds }) → here t ≡ Some t.scope.kinds
   labelled_here v t n count labels last =
       ap (λ l. label_at (listed l t.last) (length t.ops)) labels ∙ (ap (λ o. label_at (listed (kept v.labels v.last n) o) (length t.ops)) last
@@ -59,7 +59,7 @@ module _ (schema : Schema) (sf : schemas.Fits schema) (part : Part) (code : Code
             subst (λ l. IsKept schema sf k (kind_at l i)) (sym same) (held (ap (λ l. is_free (kind_at l i)) (sym same) ∙ taken));
       }
 
-  -- a scope with the names of another, whose kinds are those behind one of two branches
+  -- a scope with the names of another, whose kinds are those after one of two branches
   pub merged_moves : (u t : Buffer) (other one : List Kind) (ended : Bool) → t.scope.names ≡ u.scope.names → u.locals ≤ t.locals → t.scope.kinds ≡ cond ended other (kinds_met other one)
       → (Tidy schema sf u → Agree u.scope.kinds other × Agree u.scope.kinds one × Meet other one)
       → (Tidy schema sf u → ((i : ℕ) → is_free (kind_at other i) ≡ false → (is_free (kind_at u.scope.kinds i) ≡ false) × IsFit schema sf (kind_at other i)) × ((i : ℕ) → is_free (kind_at one i) ≡ false → (is_free (kind_at u.scope.kinds i) ≡ false) × IsFit schema sf (kind_at one i)))
@@ -77,7 +77,7 @@ module _ (schema : Schema) (sf : schemas.Fits schema) (part : Part) (code : Code
       by_side i taken back (inl e) = let r = back.0 i (ap is_free (sym e) ∙ taken) in (r.0, subst (IsFit schema sf) (sym e) r.1)
       by_side i taken back (inr e) = let r = back.1 i (ap is_free (sym e) ∙ taken) in (r.0, subst (IsFit schema sf) (sym e) r.1)
 
-  -- kinds behind a block are good where those at its end are
+  -- kinds after a block are good where those at its end are
   pub left_good : (u v : Buffer) → Tidy schema sf v → (i : ℕ) → is_free (kind_at (kinds_left u.scope.kinds v.scope.kinds) i) ≡ false → (is_free (kind_at u.scope.kinds i) ≡ false) × IsFit schema sf (kind_at (kinds_left u.scope.kinds v.scope.kinds) i)
   left_good u v tidy i taken =
       let was = left_taken u.scope.kinds v.scope.kinds i taken in
@@ -96,7 +96,7 @@ module _ (schema : Schema) (sf : schemas.Fits schema) (part : Part) (code : Code
   pub names_twice : (r u v : Buffer) → Moves schema sf r u → Moves schema sf u v → (back_to (mark_of r.scope) (back_to (mark_of u.scope) v.scope)).names ≡ r.scope.names
   names_twice r u v first then = ap (take (length r.scope.names)) (names_left u v then) ∙ names_left r u first
 
-  -- what comes behind a block, in a buffer behind which a label stands
+  -- what comes after a block, in a buffer after which a label stands
   pub block_rest : (place : ℕ) (v t : Buffer) (listed : List Op) → IsSound v → here t ≡ Some t.scope.kinds → (ended : Bool) → (ended ≡ false → (f : Frame) → Fitting f v.scope.kinds → Fitting f t.scope.kinds) → (next : Option Frame) → AfterHere ended place listed next v
       → (out : Option Frame) × ArrivesHere out t × WalksHere place listed next out
   block_rest place v t listed sound here_t true weaker next walks = (None, inr (refl, t.scope.kinds, here_t), walks)

@@ -1,4 +1,4 @@
--- What an `if` or a `with` with an `else` lays out leads the verifier to what stands behind it, where its test and its
+-- What an `if` or a `with` with an `else` lays out leads the verifier to what stands after it, where its test and its
 -- blocks do so.
 use Rattle.std.proofs.Common.{◌≡◌, inl, inr, ℕ, ◌+◌, ◌<◌, ◌≤◌, Bool, true, false, cond, List, [], ◌∷◌, ◌++◌, length, Option, Some, None, Ok, refl, subst, sym, ap, ◌∙◌, arith, append_assoc}
 use Rattle.std.specs.Prelude.{option_map}
@@ -58,7 +58,7 @@ module _ (schema : Schema) (sf : schemas.Fits schema) (part : Part) (code : Code
     abbrev a : Buffer
     a = gd.behind
 
-    -- behind the test, before a name is declared
+    -- after the test, before a name is declared
     abbrev r : Buffer
     r = gd.tested
 

@@ -53,7 +53,7 @@ module _ (schema : Schema) (sf : schemas.Fits schema) (part : Part) (code : Code
       same_kind : is_same_plain m.kind kinds.Bool ≡ true
       same_kind = due_kind m.kind kinds.Bool a (subst (λ k. Clean (due k kinds.Bool a)) m.made_is l.due_clean)
 
-      -- the test, its op, and what comes behind
+      -- the test, its op, and what comes after
       test_walks : (at : ℕ) (rest : List Op) (next out : Option Frame) (f : Frame) → Sound schema sf part code s → frame_at (At schema part code (length s.ops)) next ≡ Ok f → HasFrame schema sf part code f s.scope.kinds → s.locals ≤ code.locals
           → ((p : ℕ) → length s.ops < p → p < length u.ops → At schema part code p ≡ None) → length a.ops < at → at < length code.ops → length u.ops < length code.ops
           → on_due schema (Some f) (At schema part code (length u.ops)) ≡ Ok tt → target_due schema (Some f) (At schema part code at) ≡ Ok tt → WalksHere (length u.ops) rest (Some f) out

@@ -1,4 +1,4 @@
--- What a part of a text lays out, where its buffer has no flaw behind it.
+-- What a part of a text lays out, where its buffer has no flaw after it.
 use Rattle.std.proofs.Common.{◌≡◌, ℕ, zero, suc, ◌+◌, Bool, true, false, cond, List, [], ◌∷◌, ◌++◌, length, Option, Some, None, Ok, refl, sym, ap, ◌∙◌, append_assoc, length-append}
 use Rattle.std.specs.Prelude.{slice_get, nat_le, ◌==◌}
 use Rattle.std.proofs.lemmas.List.{append-nil}
@@ -51,7 +51,7 @@ pub put_ok : (op : Op) (s t : Buffer) → put op s ≡ Ok t → t ≡ with_op op
 unfolding put
 put_ok op s t h = sym (same_ok (with_op op s) t (guard_ok (nat_le OP_LIMIT (length s.ops)) (At Limit s.start) (Ok (with_op op s)) t h).1)
 
--- an op behind a buffer that may have had a flaw noted
+-- an op after a buffer that may have had a flaw noted
 pub put_clean : (op : Op) (s was t : Buffer) → (Clean was → was ≡ s) → put op was ≡ Ok t → Clean t → t ≡ with_op op s
 put_clean op s was t same h clean =
     let is = put_ok op was t h in

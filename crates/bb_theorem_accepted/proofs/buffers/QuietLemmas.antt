@@ -83,7 +83,7 @@ calm_closed ks (ops.Unless target) h = absurd cc
 calm_closed ks (ops.Next l target) h = absurd cc
 calm_closed ks _ h = refl
 
--- what stands at a place of ops that come behind others
+-- what stands at a place of ops that come after others
 calm_at : (ks : List Kind) (xs es : List Op) (p : ℕ) → AreCalm ks es → length xs ≤ p → p < length (xs ++ es) → (op : Op) × (slice_get (xs ++ es) p ≡ Some op) × (is_calm ks op ≡ true)
 calm_at ks [] [] p calm low high = absurd (omega (arith, high))
 calm_at ks [] (e ∷ es) zero calm low high = (e, refl, calm.0)

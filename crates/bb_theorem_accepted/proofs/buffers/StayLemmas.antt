@@ -120,7 +120,7 @@ put_keeps op quiet s = by_room (nat_le OP_LIMIT (length s.ops))
     by_room true = tt
     by_room false = record { adds = adds_op op s (record s { ops = s.ops ++ op ∷ [] }) s.scope s.locals (omega arith) refl; scope = refl; quiet = (quiet, tt) }
 
--- an op behind what was noted
+-- an op after what was noted
 pub put_on : (op : Op) → is_quiet op ≡ true → (s t : Buffer) → Stays s t → Keeps itself s (put op t)
 put_on op quiet s t g = onward itself s t (put op t) g (put_keeps op quiet t)
 

@@ -1,4 +1,4 @@
--- What is known of all locals of a code, those of names and others: between statements, behind a block, and where two
+-- What is known of all locals of a code, those of names and others: between statements, after a block, and where two
 -- branches meet.
 use Rattle.std.proofs.Common.{◌≡◌, ◌⊎◌, inl, inr, ℕ, zero, suc, ◌+◌, ◌<◌, Bool, true, false, cond, List, [], ◌∷◌, length, map, Some, refl, subst, sym, ap, ◌∙◌, arith}
 use Rattle.std.specs.Prelude.{slice_get}
@@ -79,7 +79,7 @@ met_at (k ∷ ks) [] i = inr refl
 met_at (k ∷ ks) (l ∷ ls) zero = inl refl
 met_at (k ∷ ks) (l ∷ ls) (suc i) = met_at ks ls i
 
--- behind a block a local that is taken was so before it, and holds what it holds at the end of the block
+-- after a block a local that is taken was so before it, and holds what it holds at the end of the block
 pub left_taken : (ks ls : List Kind) (i : ℕ) → is_free (kind_at (kinds_left ks ls) i) ≡ false → (is_free (kind_at ks i) ≡ false) × (kind_at (kinds_left ks ls) i ≡ kind_at ls i)
 left_taken ks ls i taken = by_free (is_free (kind_at ks i)) refl (sym (ap is_free (left_at ks ls i)) ∙ taken)
   where
@@ -87,7 +87,7 @@ left_taken ks ls i taken = by_free (is_free (kind_at ks i)) refl (sym (ap is_fre
     by_free true is taken = absurd cc
     by_free false is taken = (is, left_at ks ls i ∙ ap (λ b. cond b Any (kind_at ls i)) is)
 
--- where a local was taken before a block, it holds behind it what it holds at its end
+-- where a local was taken before a block, it holds after it what it holds at its end
 pub left_here : (ks ls : List Kind) (i : ℕ) → is_free (kind_at ks i) ≡ false → kind_at (kinds_left ks ls) i ≡ kind_at ls i
 left_here ks ls i taken = left_at ks ls i ∙ ap (λ b. cond b Any (kind_at ls i)) taken
 
@@ -208,7 +208,7 @@ module _ (s : Schema) (sf : schemas.Fits s) where
   known_from locals thought [] taken low knows = tt
   known_from locals thought (n ∷ ns) taken low knows = (low n.local taken.0, kept_under (kind_at locals n.local) (kind_at thought n.local) taken.1 (knows n.local taken.0), known_from locals thought ns taken.2 low knows)
 
-  -- ---- behind a block, and where branches meet
+  -- ---- after a block, and where branches meet
 
   pub knows_left : (locals ks ls : List Kind) → Knows locals ls → Knows locals (kinds_left ks ls)
   knows_left locals ks ls knows i taken = let was = left_taken ks ls i taken in subst (IsKept (kind_at locals i)) (sym was.1) (knows i (ap is_free (sym was.1) ∙ taken))
@@ -321,7 +321,7 @@ module _ (s : Schema) (sf : schemas.Fits s) where
       by_sequence true is = both t r u same is
       by_sequence false is = under_kept k r (under_aged k t r dead (kept_under k t (sym (sequence_aged t) ∙ (ap is_sequence same ∙ (sequence_aged r ∙ is))) u) same)
 
-  -- behind the branch that comes last
+  -- after the branch that comes last
   pub knows_met_one : (locals other one : List Kind) → Meet other one → Knows locals one → Knows locals (kinds_met other one)
   knows_met_one locals other one meet knows i taken = by_met (met_at other one i)
     where
@@ -339,7 +339,7 @@ module _ (s : Schema) (sf : schemas.Fits s) where
       by_met (inl e) = subst (IsKept (kind_at locals i)) (sym e) (by_live (is_live (kind_at one i)) refl (sym (ap is_free e) ∙ taken))
       by_met (inr e) = absurd (let no : true ≡ false = sym (ap is_free e) ∙ taken in cc)
 
-  -- behind the other branch
+  -- after the other branch
   pub knows_met_other : (locals other one : List Kind) → Meet other one → Knows locals other → Knows locals (kinds_met other one)
   knows_met_other locals other one meet knows i taken = by_met (met_at other one i)
     where

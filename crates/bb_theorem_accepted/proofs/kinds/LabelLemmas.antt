@@ -19,7 +19,7 @@ use Rattle.bb_verify.specs.FrameType.{Frame}
 use Rattle.bb_verify.specs.Places.{with_frames, declared_frames, declared_at}
 use Rattle.bb_verify.specs.Tables.{known_kind, known_frame, places_rise}
 
--- all labels, the last one behind the others
+-- all labels, the last one after the others
 abbrev pub listed : List Label → Option Label → List Label
 listed labels None = labels
 listed labels (Some l) = labels ++ l ∷ []

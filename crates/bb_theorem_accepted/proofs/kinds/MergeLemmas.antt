@@ -1,4 +1,4 @@
--- The kinds behind two branches, one of which may have ended.
+-- The kinds after two branches, one of which may have ended.
 use Rattle.std.proofs.Common.{◌≡◌, ◌⊎◌, inl, inr, ℕ, zero, suc, Bool, true, false, cond, List, [], ◌∷◌, refl, subst, sym, ap, ◌∙◌}
 use Rattle.bb_schema.specs.Schema.{Schema}
 use Rattle.bb_schema.specs.Fits as schemas
@@ -33,7 +33,7 @@ module _ (base other one now : List Kind) (ended : Bool) (is : now ≡ cond ende
           let here = met_here other one i (taken_on (kind_at base i) (kind_at other i) (first i taken) taken) one_taken in
           second i taken ∙ (sym (either_aged (kind_at other i) (kind_at one i) (meet i one_taken)) ∙ (ap aged (sym here) ∙ ap (λ ks. aged (kind_at ks i)) (sym is)))
 
-  -- what a local holds is what it holds behind one of the branches
+  -- what a local holds is what it holds after one of the branches
   pub merged_from : (i : ℕ) → is_free (kind_at now i) ≡ false → (kind_at now i ≡ kind_at other i) ⊎ (kind_at now i ≡ kind_at one i)
   merged_from i taken = by_end ended is
     where

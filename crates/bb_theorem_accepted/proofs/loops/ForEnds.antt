@@ -1,4 +1,4 @@
--- Where the body of a `for` ends, and what stands behind the loop, for a code that agrees with what is laid out.
+-- Where the body of a `for` ends, and what stands after the loop, for a code that agrees with what is laid out.
 use Rattle.std.proofs.Common.{◌≡◌, ℕ, ◌+◌, ◌<◌, Bool, true, false, List, length, Some, subst, sym, ap, ◌∙◌, arith}
 use Rattle.std.specs.Prelude.{option_map}
 use Rattle.bb_schema.specs.Schema.{Schema}
@@ -76,7 +76,7 @@ module _ (schema : Schema) (sf : schemas.Fits schema) (part : Part) (code : Code
         frames = λ p lt. agrees.frames p (omega (arith, lt, count, behind)) ∙ ap (option_map (frame_by code.locals)) (end_marks p lt);
       }
 
-  -- ---- what stands behind the loop
+  -- ---- what stands after the loop
 
   module _ (own : BlockActs schema body f.inner.scope f.end.scope) (tidy_end : Sound schema sf part code f.end) where
     level : Levels s.scope t.scope

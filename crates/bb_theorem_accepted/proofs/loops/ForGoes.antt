@@ -1,4 +1,4 @@
--- A `for`, for the verifier: from what stands before it to what stands behind its loop.
+-- A `for`, for the verifier: from what stands before it to what stands after its loop.
 use Rattle.std.proofs.Common.{◌≡◌, inl, inr, ℕ, ◌+◌, ◌<◌, ◌≤◌, Bool, true, false, cond, List, [], ◌∷◌, ◌++◌, length, Option, Some, None, Ok, refl, subst, sym, ap, ◌∙◌, arith, length-append, append_assoc}
 use Rattle.std.specs.Prelude.{max, option_map}
 use Rattle.std.proofs.lemmas.Bool.{eq-eqb}
@@ -222,7 +222,7 @@ module _ (schema : Schema) (sf : schemas.Fits schema) (part : Part) (code : Code
   here_t : here t ≡ Some t.scope.kinds
   here_t = ends.here_t schema sf part code loops name sequence body s t now sole f block units sound agrees acted own.sound
 
-  -- what is known at the head is known behind the loop
+  -- what is known at the head is known after the loop
   first_behind : Fitting first_frame t.scope.kinds
   first_behind =
       let scope = acts.scope_is schema part loops name sequence body s t now sole f acted in

@@ -211,7 +211,7 @@ module _ (schema : Schema) (sf : schemas.Fits schema) (part : Part) (code : Code
   pub first_at : local_at f.local first_frame ≡ kinds.Seq f.class
   first_at = local_is f.local first_frame ∙ (at_range head.scope.kinds 0 code.locals f.local few_local ∙ (ap (kind_at head.scope.kinds) (let e : 0 + f.local ≡ f.local = omega arith in e) ∙ head_at))
 
-  -- behind the sequence
+  -- after the sequence
   pub with_sequence_fits : (g : Frame) → Fitting g s.scope.kinds → Fitting (with_local f.local (kinds.Seq f.class) g) head.scope.kinds
   with_sequence_fits g has = (has.0, length-set g.locals f.local (kinds.Seq f.class) ∙ has.1, knows_weaker schema sf (set g.locals f.local (kinds.Seq f.class)) f.held.scope.kinds head.scope.kinds same head_live knows)
     where

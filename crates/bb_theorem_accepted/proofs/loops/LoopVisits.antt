@@ -1,4 +1,4 @@
--- The ops of a loop, for the verifier: its head goes on with a unit, and behind the loop where none is left, and the
+-- The ops of a loop, for the verifier: its head goes on with a unit, and after the loop where none is left, and the
 -- way back goes to the head.
 use Rattle.std.proofs.Common.{◌≡◌, ℕ, ◌+◌, ◌<◌, ◌≤◌, ◌∷◌, length, Option, Some, None, Result, Ok, refl, ap}
 use Rattle.std.proofs.lemmas.Bool.{lt-leb, lt-ltb}

@@ -8,7 +8,7 @@ use Rattle.bb_verify_effect.specs.Flaw.{Flaw as CodeFlaw}
 use Rattle.bb_verify.specs.nesting.Loops.{holds, never, rising, lowest_outside}
 use Rattle.bb_theorem_accepted.proofs.nests.NestLemmas.{Loops}
 
--- heads rise, from a place on, and ends come behind them, up to another
+-- heads rise, from a place on, and ends come after them, up to another
 abbrev pub Within : (from to : ℕ) → List Loop → Type 0
 Within from to [] = Unit {0}
 Within from to (l ∷ ls) = (from ≤ l.head) × (l.head < l.end) × (l.end ≤ to) × Within (l.head + 1) to ls
@@ -20,7 +20,7 @@ within_more from to low high (l ∷ ls) first last w =
     let c = w.2 in
     (omega (arith, first, a), w.1, omega (arith, last, c), within_more (l.head + 1) to (l.head + 1) high ls (omega arith) last w.3)
 
--- behind a place no loop begins there
+-- after a place no loop begins there
 pub within_on : (from mid to : ℕ) (xs ys : List Loop) → from ≤ mid + 1 → mid ≤ to → Within from mid xs → Within (mid + 1) to ys → Within from to (xs ++ ys)
 within_on from mid to [] ys le up first then = within_more (mid + 1) to from to ys le (omega arith) then
 within_on from mid to (l ∷ ls) ys le up first then =
@@ -57,7 +57,7 @@ around_on place (l ∷ ls) ys = by_held (holds place l) (around_on place ls ys)
     by_held true e = omega (arith, e)
     by_held false e = e
 
--- none before the first head, and none behind the last end
+-- none before the first head, and none after the last end
 none_below : (place from to : ℕ) (ls : List Loop) → place < from → Within from to ls → around place ls ≡ 0
 none_below place from to [] lt w = refl
 none_below place from to (l ∷ ls) lt w =
@@ -104,7 +104,7 @@ shallow_more n l ls some few place = by_held (holds place l) (few place)
 
 -- ---- what the verifier asks of it
 
--- no loop is listed behind one whose head comes later
+-- no loop is listed after one whose head comes later
 pub rising_passes : (place from to : ℕ) (ls : List Loop) → Within from to ls → rising place ls ≡ Ok tt
 unfolding rising
 rising_passes place from to [] w = refl

@@ -1,4 +1,4 @@
--- What a `for` lays out, gathered for whoever executes its code: the ops of its loop at their places, and what its
+-- What a `for` lays out, gathered for crates that execute its code: the ops of its loop at their places, and what its
 -- scope keeps.
 use Rattle.std.proofs.Common.{◌≡◌, ℕ, ◌+◌, ◌-◌, ◌≤◌, Bool, false, List, length, Some, ap, ◌∙◌}
 use Rattle.std.specs.Prelude.{slice_get, position}
@@ -36,7 +36,7 @@ module _ (code : Code) (schema : Schema) (part : Part) (loops : ℕ) (name : Lis
     pub has_before : Has code before
     pub has_inner : Has code f.inner
     pub has_end : Has code f.end
-    -- places, up to the one behind the loop
+    -- places, up to the one after the loop
     pub over : ℕ
     pub low : length s.ops ≤ length before.ops
     pub held : length f.held.ops ≡ length before.ops + 1
@@ -92,7 +92,7 @@ module _ (code : Code) (schema : Schema) (part : Part) (loops : ℕ) (name : Lis
             ap (λ (c : Scope). is_free (kind_at c.kinds i)) scope ∙ taken_on (kind_at was.kinds i) (kind_at there.kinds i) (level.agree i one) one;
       }
 
--- what it lays out comes behind what there was, and its scope has the names and the free locals that there were
+-- what it lays out comes after what there was, and its scope has the names and the free locals that there were
 module _ (schema : Schema) (part : Part) (loops : ℕ) (name : List ℕ) (sequence : Sequence) (body : BlockTree) (s t : Buffer) (now : Bool) (f : ForLaid schema part loops name sequence body s t now) where
   pub loop_grown : Grown s t
   loop_grown = lays.for_grown schema part loops name sequence body s t now f (block_lays schema part body (loops - 1) false f.ended f.inner f.end f.block_is)

@@ -1,4 +1,4 @@
--- Loops behind a statement without blocks, and behind a test and its blocks.
+-- Loops after a statement without blocks, and after a test and its blocks.
 use Rattle.std.proofs.Common.{◌≡◌, ◌⊎◌, inl, inr, ℕ, suc, ◌+◌, ◌<◌, ◌≤◌, Bool, true, false, not, List, [], ◌∷◌, ◌++◌, length, Some, None, Ok, refl, subst, sym, ap, ◌∙◌, arith, length-append}
 use Rattle.std.proofs.lemmas.List.{append-nil}
 use Rattle.bb_code.specs.declared.frame.Loop.{Loop}
@@ -136,7 +136,7 @@ module _ (code : Code) where
         (heads (length t.ops) (length u.ops) then.loops then.within) first.nest then.nest;
   }
 
-  -- ---- a test and the blocks behind it
+  -- ---- a test and the blocks after it
 
   module _ (schema : Schema) (part : Part) (loops : ℕ) (first : BlockTree) (s t : Buffer) (now : Bool) (has : Has code t) where
     -- up to the end of the first block
@@ -221,7 +221,7 @@ module _ (code : Code) where
         g : Guard s br.inner br.exits
         g = br.guard
 
-        -- the first block, and what comes behind it
+        -- the first block, and what comes after it
         joined : (x y : Buffer) (at : ℕ) (behind : Has code br.guard.behind) (end : Has code br.blocks.end) → AreAimed code at (length br.guard.behind.ops) br.guard.es → length br.blocks.end.ops ≤ at → at ≤ length y.ops → length t.ops ≡ length y.ops → t.loops ≡ y.loops → x.loops ≡ br.blocks.end.loops
             → length x.ops ≡ at → length x.ops ≤ length y.ops → (second : Nested loops x y) → Nest code (Watched s.scope.kinds) (length br.blocks.end.ops) (length y.ops) (length y.ops) second.loops → Nested loops s t
         joined x y at behind end aims below high count same same_x place up second nest =

@@ -138,7 +138,7 @@ module _ (code : Code) where
         (λ l up own. each_on (λ p op. Passes l op) from mid l.head (λ p op a b at q is. inl (let e = (first.may p op a b at).exit q is in let top = e.1 in omega (arith, top, up))) own) behind then.passes);
   }
 
-  -- ops that go behind a block come before it
+  -- ops that go after a block come before it
   pub nest_before : (watched then_watched : ℕ → Type 0) → ((l : ℕ) → watched l → then_watched l) → (from mid to at : ℕ) (ls : List Loop) → mid ≤ at → to ≤ at → Loops (λ l. l.end ≤ to) ls
       → Each from mid (λ p op. Before watched at op) → Nest then_watched mid to to ls → Nest watched from to at ls
   nest_before watched then_watched so from mid to at ls low le within first then = record {

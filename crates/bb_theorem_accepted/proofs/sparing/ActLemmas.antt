@@ -59,7 +59,7 @@ pub acts_same : (a b : Scope) (p : ℕ → Bool) → Sole a.kinds a.names → b 
 acts_same a b p sole same =
     acts_level a b p sole (level_same a b (ap (λ (c : Scope). c.names) same) (ap (λ (c : Scope). c.kinds) same)) (λ j n at live spared. ap (λ (c : Scope). is_live (kind_at c.kinds n.local)) same ∙ live)
 
--- a name is declared behind a buffer of this scope
+-- a name is declared after a buffer of this scope
 pub acts_declared : (a : Scope) (name : List ℕ) (kind : Kind) (class : Option ℕ) (u t : Buffer) → Sole a.kinds a.names → u.scope ≡ a → is_free kind ≡ false → class_of kind ≡ class → declare name kind u ≡ Ok t → (1 ≤ frees a.kinds) × Acts a t.scope ((name, class) ∷ []) All
 acts_declared a name kind class u t sole same held of_class h =
     let d = declare_is name kind u t h in

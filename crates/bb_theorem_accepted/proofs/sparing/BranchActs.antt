@@ -36,7 +36,7 @@ pub record BranchActs (schema : Schema) (other : OtherwiseTree) (p : ℕ → Boo
   pub spares : Spares s t (λ j. p j && other_spares schema (of s) other j)
 
 module _ (schema : Schema) (part : Part) (loops : ℕ) (first : BlockTree) (s t : Buffer) (now : Bool) (sole : Sole s.scope.kinds s.scope.names) where
-  -- behind the first block
+  -- after the first block
   module _ (other : OtherwiseTree) (br : Branches schema part loops first other s t now) (tested : br.guard.tested.scope ≡ s.scope) (enters : Onto s.scope br.inner.scope) (kept : Spares s.scope br.inner.scope All)
       (block : BlockActs schema first br.inner.scope br.blocks.end.scope) where
     abbrev behind : Buffer

@@ -127,7 +127,7 @@ module _ (schema : Schema) (part : Part) (loops : ℕ) (name : List ℕ) (sequen
   abbrev pub hd : HeadLaid schema name f.class f.local body f.held f.inner f.begun
   hd = f.head_is
 
-  -- behind the sequence
+  -- after the sequence
   pub same : q.behind.scope ≡ s.scope
   same = (keeps_ok behind s (sequence_code schema STACK_LIMIT (sequence_of sequence) s) (Some f.class, q.behind) q.code_is (sequence_keeps schema (sequence_of sequence) STACK_LIMIT s)).scope
 
@@ -203,7 +203,7 @@ module _ (schema : Schema) (part : Part) (loops : ℕ) (name : List ℕ) (sequen
     shape_inner : of f.inner.scope ≡ of held ++ (name, Some f.class) ∷ []
     shape_inner = named.1.shaped ∙ ap (λ S. S ++ (name, Some f.class) ∷ []) shape_head
 
-    -- behind the loop
+    -- after the loop
     abbrev pub closed : Scope
     closed = record { names = (back_to f.begun.start (back_to (mark_of f.inner.scope) f.end.scope)).names; kinds = f.begun.start.kinds }
 

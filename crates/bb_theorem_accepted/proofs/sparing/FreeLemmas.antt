@@ -1,4 +1,4 @@
--- Where a local is free there is a lowest one, and what locals hold behind blocks and branches, local by local.
+-- Where a local is free there is a lowest one, and what locals hold after blocks and branches, local by local.
 use Rattle.std.proofs.Common.{◌≡◌, ℕ, zero, suc, ◌≤◌, Bool, true, false, cond, List, [], ◌∷◌, length, Some, refl, ap, ◌∙◌, arith}
 use Rattle.std.specs.Prelude.{position, option_map}
 use Rattle.bb_basis.proofs.PositionLemmas.{spot, position_spot}
@@ -21,7 +21,7 @@ spot_free (x ∷ xs) some = by_free (spot_free xs) (is_free x) refl
 pub has_free : (ks : List Kind) → 1 ≤ frees ks → (i : ℕ) × (position is_free ks ≡ Some i)
 has_free ks some = let at = spot_free ks some in (at.0, position_spot is_free ks ∙ at.1)
 
--- ---- behind a block, and behind branches
+-- ---- after a block, and after branches
 
 pub left_free : (ks ls : List Kind) (i : ℕ) → (is_free (kind_at ks i) ≡ false → is_free (kind_at ls i) ≡ false) → is_free (kind_at (kinds_left ks ls) i) ≡ is_free (kind_at ks i)
 left_free ks ls i taken = ap is_free (left_at ks ls i) ∙ by_free (is_free (kind_at ks i)) refl

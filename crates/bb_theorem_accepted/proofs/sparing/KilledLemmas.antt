@@ -1,5 +1,5 @@
 -- What a loop's body leaves of the names that are live, as the compiler says it before it lays the body out: a name is
--- live behind it if and only if it was so before, and the body spares it.
+-- live after it if and only if it was so before, and the body spares it.
 use Rattle.std.proofs.Common.{◌≡◌, ◌⊎◌, inl, inr, ℕ, ◌+◌, ◌≤◌, Bool, true, false, List, [], ◌∷◌, ◌++◌, length, map, Option, Some, None, refl, subst, sym, ap, ◌∙◌, arith}
 use Rattle.std.specs.Prelude.{set, position, option_map, option_and_then}
 use Rattle.std.specs.Option.{option_map_or}
@@ -163,7 +163,7 @@ module _ (s : Schema) where
       let w = walked_on a inner c (declared_walks name class a) (walked_left inner (killed_statements s inner body) (block_walks body inner)) in
       (level_left a c w.0, fades_left a c w.1)
 
--- ---- which names are live behind it, where the locals suffice
+-- ---- which names are live after it, where the locals suffice
 
 -- names of the scope, with their classes
 pub class_of_name : (a : Scope) (unit : Variable) → unit_class a unit ≡ class_in (of a) (name_of unit)
@@ -192,7 +192,7 @@ pub sequence_is : (s : Schema) (a : Scope) (sequence : Sequence) → sequence_cl
 sequence_is s a (sequences.Find class space pattern) = refl
 sequence_is s a (sequences.Links unit slot) = ap (λ o. option_and_then (λ class. option_map (λ p. p.1.to) (unless_fault (link_slot s class slot))) o) (class_of_name a unit)
 
--- what a block spares is live behind it, and nothing else of what was there before it
+-- what a block spares is live after it, and nothing else of what was there before it
 pub record Kills (a b : Scope) (spared : ℕ → Bool) : Type 0 where
   pub spares : Spares a b spared
   pub reveals : Reveals a b spared

@@ -97,7 +97,7 @@ level_on a b c first then = record {
   free = λ i. then.free i ∙ first.free i;
 }
 
--- behind a block
+-- after a block
 pub level_left : (a b : Scope) → Onto a b → Levels a (back_to (mark_of a) b)
 level_left a b o = record {
   names = ap (take (length a.names)) o.names ∙ take-append_seam a.names o.more;
@@ -106,15 +106,15 @@ level_left a b o = record {
   free = λ i. left_free a.kinds b.kinds i (λ taken. taken_on (kind_at a.kinds i) (kind_at b.kinds i) (o.agree i taken) taken);
 }
 
--- behind a block whose names are forgotten, and then those before it
+-- after a block whose names are forgotten, and then those before it
 pub level_twice : (a b c : Scope) → Onto a b → Onto b c → Levels a (back_to (mark_of a) (back_to (mark_of b) c))
 level_twice a b c first then =
     let inner = back_to (mark_of b) c in
     level_left a inner (onto_on a b inner first (onto_level b inner (level_left b c then)))
 
--- ---- behind branches
+-- ---- after branches
 
--- what locals hold behind one of two branches, or where both meet
+-- what locals hold after one of two branches, or where both meet
 abbrev pub Mixed : (one other now : List Kind) → Type 0
 Mixed one other now = (now ≡ one) ⊎ ((now ≡ other) ⊎ (now ≡ kinds_met one other))
 

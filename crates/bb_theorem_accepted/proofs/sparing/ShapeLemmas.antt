@@ -1,4 +1,4 @@
--- What one statement, or what stands behind another, does to the names and classes in scope, and which names it spares.
+-- What one statement, or what stands after another, does to the names and classes in scope, and which names it spares.
 use Rattle.std.proofs.Common.{◌≡◌, ◌⊎◌, inl, inr, ℕ, Bool, true, false, cond, ◌&&◌, not, List, [], ◌∷◌, ◌++◌, map, Some, refl, sym, ap, ◌∙◌}
 use Rattle.std.specs.Prelude.{set, position, slice_get}
 use Rattle.bb_basis.proofs.BoolLemmas.{and_first, and_second}
@@ -59,7 +59,7 @@ reveals_on a b c p q o one two j n at live =
 pub fades_on : (a b c : Scope) → Onto a b → Fades a b → Fades b c → Fades a c
 fades_on a b c o one two i taken live = one i taken (two i (taken_on (kind_at a.kinds i) (kind_at b.kinds i) (o.agree i taken) taken) live)
 
--- ---- behind a block
+-- ---- after a block
 
 pub spares_left : (a b : Scope) (p : ℕ → Bool) → Sole a.kinds a.names → Spares a b p → Spares a (back_to (mark_of a) b) p
 spares_left a b p sole one j n at live spared = ap is_live (left_here a.kinds b.kinds n.local (sole_taken a.kinds a.names j n sole at)) ∙ one j n at live spared
@@ -77,7 +77,7 @@ shaped_level a b l sole = ap (shape b.kinds) l.names ∙ shape_agree a.kinds b.k
 abbrev pub All : ℕ → Bool
 All j = true
 
--- behind a block with a name of its own, whose names are forgotten
+-- after a block with a name of its own, whose names are forgotten
 pub spares_twice : (a b c : Scope) (p : ℕ → Bool) → Onto a b → Sole a.kinds a.names → Spares a b All → Spares b c p → Spares a (back_to (mark_of a) (back_to (mark_of b) c)) p
 spares_twice a b c p o sole one two =
     let inner = back_to (mark_of b) c in
@@ -88,7 +88,7 @@ reveals_twice a b c p o sole one two =
     let inner = back_to (mark_of b) c in
     reveals_left a inner p sole (λ j n at live. (reveals_on a b inner All p o one (reveals_left b c p (o.sole sole) two)) j n at live)
 
--- ---- behind branches
+-- ---- after branches
 
 met_live : (k l : Kind) → is_live k ≡ true → is_live l ≡ true → is_live (met_kind k l) ≡ true
 met_live k l one other = rw other one

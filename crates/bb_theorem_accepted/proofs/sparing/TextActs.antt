@@ -76,7 +76,7 @@ module _ (schema : Schema) where
   -- ---- statements with blocks
 
   module _ (part : Part) where
-    -- behind the test of an `if` the scope is as before it
+    -- after the test of an `if` the scope is as before it
     pub if_scope : (loops : ℕ) (test : ExprTree) (first : BlockTree) (other : OtherwiseTree) (s t : Buffer) (now : Bool) → (laid : IfLaid schema part loops test first other s t now) → laid.inner.scope ≡ s.scope
     if_scope loops test first other s t now laid =
         let l = laid.test_is in

@@ -34,7 +34,7 @@ use Rattle.bb_theorem_accepted.proofs.buffers.PutLemmas.{pair_ok, clean_before, 
 use Rattle.bb_theorem_accepted.proofs.buffers.EffectLemmas.{OneGives, TwoGives, calculates, compares, both, intervals, negates, ends_of, divides, equals}
 use Rattle.bb_theorem_accepted.proofs.buffers.LayLemmas.{Lays, Turns, one_turns, two_turns}
 
--- a buffer has no flaw before an operation where it has none behind it
+-- a buffer has no flaw before an operation where it has none after it
 op_clean : (op : Op) (s t : Buffer) → t ≡ with_op op s → Clean t → Clean s × Grown s t
 op_clean op s t put clean = (clean_before op s t put clean, grown_op op s t put)
 

@@ -52,7 +52,7 @@ use Rattle.bb_theorem_accepted.proofs.straight.QueryLemmas.{AreDue, due_count, d
 
 -- ---- tests
 
--- a test fits where its dimension is there and its operand is of the kind that is due
+-- a test fits where its dimension is there and its operand is of the expected kind
 fits_test : (relation : Relation) (dims : List Dim) (ks : List OperandKind) (d n : ℕ) (dim : Dim) (kind : Kind) (set : Option ℕ) → dim.set ≡ set → slice_get dims d ≡ Some dim → slots.operand_due relation set ≡ Some kind → slice_get ks n ≡ Some (operand_kind kind)
     → tests_fit dims ks (test_tree relation d n) ≡ Ok tt
 unfolding tests_fit ordered_fits is_fits
@@ -167,7 +167,7 @@ module _ (schema : Schema) (sf : schemas.Fits schema) (part : Part) (code : Code
     leads = m.leads;
   }
 
-  -- a pattern, and others behind it
+  -- a pattern, and others after it
   pub asks_on : (space : ℕ) (s t u : Buffer) (of : Option ℕ) (asked between after : Asked) (F G H : ℕ → List OperandKind → Type 0) → ((k : ℕ) (os : List OperandKind) → F k os → G k os → H k os)
       → Asks space s t of asked between F → Asks space t u of between after G → Asks space s u of asked after H
   unfolding grown_on
@@ -186,7 +186,7 @@ module _ (schema : Schema) (sf : schemas.Fits schema) (part : Part) (code : Code
         (two.0, two.1, two.2, leads_on schema part code first.grown.ops then.grown.ops (with_stack (reverse ks ++ f.stack) f) (with_stack (reverse one.0 ++ f.stack) f) (with_stack (reverse two.0 ++ f.stack) f) one.3 two.3);
   }
 
-  -- behind a node of a pattern
+  -- after a node of a pattern
   pub node_free : (asked : Asked) (s : Buffer) → Clean (node_noted asked s) → node_noted asked s ≡ s
   node_free asked s clean = (not_failed (asked.nodes == 0) Limit s clean).1
 

@@ -83,7 +83,7 @@ module _ (schema : Schema) (sf : schemas.Fits schema) (part : Part) (code : Code
   abbrev pub Stands : Frame → Buffer → Type 0
   Stands f s = (f.stack ≡ []) × Known schema sf part code f s
 
-  -- behind a statement: nothing follows it, or the next one
+  -- after a statement: nothing follows it, or the next one
   abbrev pub After : (ended : Bool) → Buffer → List Op → Frame → Type 0
   After true t listed f = Runs schema part code listed f
   After false t listed f = (g : Frame) × Stands g t × Leads schema part code listed f g

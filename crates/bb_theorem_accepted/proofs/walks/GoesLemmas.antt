@@ -1,4 +1,4 @@
--- What a statement lays out leads the verifier to what stands behind it; statements without blocks do.
+-- What a statement lays out leads the verifier to what stands after it; statements without blocks do.
 use Rattle.std.proofs.Common.{◌≡◌, inl, ℕ, ◌+◌, ◌<◌, ◌≤◌, Bool, true, false, List, length, Option, Some, None, Ok, refl, subst, sym, ap, ◌∙◌, arith}
 use Rattle.std.specs.Prelude.{option_map, is_ok}
 use Rattle.bb_schema.specs.Schema.{Schema}
@@ -37,7 +37,7 @@ module _ (schema : Schema) (sf : schemas.Fits schema) (part : Part) (code : Code
   abbrev WalksHere : ℕ → List Op → (next out : Option Frame) → Type 0
   WalksHere place listed next out = Walks schema part code place listed next out
 
-  -- behind what is laid out: nothing follows, or the next statement
+  -- after what is laid out: nothing follows, or the next statement
   abbrev pub After : (ended : Bool) → (place : ℕ) → List Op → Option Frame → Buffer → Type 0
   After true place listed next t = WalksHere place listed next None
   After false place listed next t = (out : Option Frame) × ArrivesHere out t × WalksHere place listed next out
@@ -52,7 +52,7 @@ module _ (schema : Schema) (sf : schemas.Fits schema) (part : Part) (code : Code
     pub right : now ≡ true → is_ok (ends_done part) ≡ false
     pub more : (now ≡ false → JoinsHere t) → JoinsHere s × ((next : Option Frame) → ArrivesHere next s → After now (length s.ops) grown.ops next t × ((frames : List Frame) → Traced schema part code frames (length s.ops) next → S frames))
 
-  -- ---- a buffer behind which no label was put
+  -- ---- a buffer after which no label was put
 
   pub plain_here : (s t : Buffer) → IsSound s → labels_of t ≡ labels_of s → length s.ops < length t.ops → here t ≡ None
   plain_here s t sound labels lt = ap (λ ls. label_at ls (length t.ops)) labels ∙ found_past (λ ks. ks) None 0 (labels_of s) (length s.ops + 1) (length t.ops) sound.rises (omega (arith, lt))
@@ -68,7 +68,7 @@ module _ (schema : Schema) (sf : schemas.Fits schema) (part : Part) (code : Code
         strong = λ ks at. absurd (let no : None ≡ Some ks = sym (plain_here s t sound same lt) ∙ at in cc);
       }
 
-  -- no frame is declared behind a buffer's end before the next label
+  -- no frame is declared after a buffer's end before the next label
   undeclared : (s t : Buffer) → IsSound s → AgreesHere t → ((p : ℕ) → p < length t.ops → length s.ops < p → label_at (labels_of t) p ≡ label_at (labels_of s) p) → (p : ℕ) → length s.ops < p → p < length t.ops → At schema part code p ≡ None
   undeclared s t sound agrees marks p low high =
       agrees.frames p high ∙ ap (option_map (frame_by code.locals)) (marks p high low ∙ found_past (λ ks. ks) None 0 (labels_of s) (length s.ops + 1) p sound.rises (omega (arith, low)))

@@ -37,7 +37,7 @@ module _ (schema : Schema) (sf : schemas.Fits schema) (part : Part) (code : Code
   abbrev Fitting : Frame → List Kind → Type 0
   Fitting f ks = HasFrame schema sf part code f ks
 
-  -- from one frame before a test to another behind it, and to the first elsewhere
+  -- from one frame before a test to another after it, and to the first elsewhere
   abbrev pub Led : (s u : Buffer) (exits : Exits) (gd : Guard s u exits) (grown : Grown s gd.behind) (f own : Frame) → Type 0
   Led s u exits gd grown f own =
       (at : ℕ) (rest listed : List Op) (next out : Option Frame) → listed ≡ gd.named.ops ++ rest → frame_at (At schema part code (length s.ops)) next ≡ Ok f
@@ -85,7 +85,7 @@ module _ (schema : Schema) (sf : schemas.Fits schema) (part : Part) (code : Code
           block.marks p (omega (arith, high)) (omega (arith, high, behind))
           ∙ (ap (λ ls. label_at ls p) in_labels ∙ found_past (λ ks. ks) None 0 (labels_of s) (length s.ops + 1) p sound.rises (omega (arith, low)))
 
-  -- so does all that comes behind it
+  -- so does all that comes after it
   pub led_after : (s u : Buffer) (exits : Exits) (gd : Guard s u exits) (grown : Grown s gd.behind) (f own : Frame) → Led s u exits gd grown f own → (at : ℕ) (rest listed : List Op) (next : Option Frame) (now : Bool) (t : Buffer)
       → listed ≡ gd.named.ops ++ rest → frame_at (At schema part code (length s.ops)) next ≡ Ok f
       → ((p : ℕ) → length s.ops < p → p < length u.ops → At schema part code p ≡ None) → length gd.tested.ops ≤ at → at < length code.ops → length u.ops < length code.ops

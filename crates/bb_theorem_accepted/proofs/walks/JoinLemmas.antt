@@ -133,7 +133,7 @@ module _ (s : Schema) (sf : schemas.Fits s) (part : Part) (code : Code) where
       by_target : (g : Frame) (ks : List Kind) → here t ≡ Some ks → HasFrame g ks → target_due s (Some g) (Declared (length t.ops)) ≡ Ok tt
       by_target g ks at has = rw (declared, at, label_fits g ks (label_good t sound (length t.ops) ks at) has) refl
 
-  -- a buffer behind which a label stands with kinds that are known there
+  -- a buffer after which a label stands with kinds that are known there
   pub joins_weaker : (v t : Buffer) → Sound v → length v.ops ≡ length t.ops → here t ≡ Some t.scope.kinds → ((g : Frame) → HasFrame g v.scope.kinds → HasFrame g t.scope.kinds) → Joins t → Joins v
   joins_weaker v t sound place at weaker joins = record {
     below = subst (λ n. n < length code.ops) (sym place) joins.below;

@@ -110,14 +110,14 @@ module _ (s : Schema) (part : Part) (code : Code) where
     leaves = refl;
   }
 
-  -- no frame is declared from behind a place up to another
+  -- no frame is declared from after a place up to another
   abbrev pub Undeclared : (from to : ℕ) → Type 0
   Undeclared from to = (i : ℕ) → from < i → i ≤ to → At i ≡ None
 
   pub undeclared_on : (g : Frame) (o : Option Frame) → o ≡ None → (on_due s (Some g) o ≡ Ok tt) × (frame_at o (Some g) ≡ Ok g)
   undeclared_on g o none = rw none (refl, refl)
 
-  -- ops that lead from frame to frame, and what comes behind them
+  -- ops that lead from frame to frame, and what comes after them
   pub leads_then : (listed rest : List Op) (place : ℕ) (f g : Frame) (next out : Option Frame) → frame_at (At place) next ≡ Ok f → Undeclared place (place + length listed) → place + length listed < length code.ops → Leads s part code listed f g
       → ((last : Option Frame) → frame_at (At (place + length listed)) last ≡ Ok g → Walks (place + length listed) rest last out) → Walks place (listed ++ rest) next out
   leads_then [] rest place f g next out here none lt leads then =

@@ -1,4 +1,4 @@
--- Statements of all kinds, one after another, lead the verifier to what stands behind them.
+-- Statements of all kinds, one after another, lead the verifier to what stands after them.
 use Rattle.std.proofs.Common.{◌≡◌, ◌⊎◌, inl, inr, ℕ, Bool, true, false, ◌||◌, List, [], ◌++◌, length, Option, None, Ok, refl, subst, sym, ap, ◌∙◌, arith, ◌-◌, Some}
 use Rattle.std.proofs.lemmas.List.{append-nil}
 use Rattle.bb_basis.proofs.ResultLemmas.{bind_ok}
@@ -59,7 +59,7 @@ module _ (schema : Schema) (sf : schemas.Fits schema) (part : Part) (code : Code
   abbrev TracedHere : List Frame → ℕ → Option Frame → Type 0
   TracedHere frames place next = Traced schema part code frames place next
 
-  -- behind a statement that ends there is no other
+  -- after a statement that ends there is no other
   abbrev pub Block : (was now : Bool) → Buffer → Buffer → (List Frame → Type 0) → Type 0
   Block true now s t S = (s ≡ t) × (now ≡ true) × ((frames : List Frame) → S frames)
   Block false now s t S = GoesHere s t now S
@@ -127,7 +127,7 @@ module _ (schema : Schema) (sf : schemas.Fits schema) (part : Part) (code : Code
   abbrev pub Found : List Frame → Buffer → Type 0
   Found frames x = Finds schema sf frames (length x.ops) x.scope.kinds
 
-  -- a test and the blocks behind it
+  -- a test and the blocks after it
   module _ (loops : ℕ) (first : BlockTree) (s t : Buffer) (now : Bool) (sound : IsSound s) (agrees : AgreesHere t) (S : (e : Bool) (x y : Buffer) → statements_code schema part loops false first x ≡ Ok (e, y) → List Frame → Type 0)
       (lays : (e : Bool) (x y : Buffer) → statements_code schema part loops false first x ≡ Ok (e, y) → LaysBlock x y) (goes : (e : Bool) (x y : Buffer) → (is : statements_code schema part loops false first x ≡ Ok (e, y)) → IsSound x → AgreesHere y → GoesHere x y e (S e x y is)) where
     pub one_goes : (br : Branches schema part loops first absent s t now) → (Has code br.guard.behind → Guides schema sf part code s br.inner br.exits br.guard) → GoesHere s t now (λ frames. Found frames s × S br.blocks.ended br.inner br.blocks.end br.blocks.block_is frames)

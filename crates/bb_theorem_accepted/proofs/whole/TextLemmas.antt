@@ -104,10 +104,10 @@ module _ (schema : Schema) (sf : schemas.Fits schema) (part : Part) (classes : H
   abbrev Accepted : Code → (now : Bool) (t : Buffer) → statements_code schema part LOOP_NESTING false block first ≡ Ok (now, t) → Type 0
   Accepted code now t h = (frames : List Frame) × (checked schema part code ≡ Ok (record { code = code; part = part; frames = frames })) × Told now t h frames
 
-  -- a buffer behind the block, and that of the whole code, which has an op more at most
+  -- a buffer after the block, and that of the whole code, which has an op more at most
   module _ (u t : Buffer) (now : Bool) (within : is_within (code_of (version_for schema) u) ≡ true) (h : statements_code schema part LOOP_NESTING false block first ≡ Ok (now, t))
       (labels : u.labels ≡ t.labels) (last : u.last ≡ t.last) (loops : u.loops ≡ t.loops) (locals : u.locals ≡ t.locals) (has : Has (code_of (version_for schema) u) t) (le : length t.ops ≤ length u.ops)
-      -- at most one op comes behind
+      -- at most one op comes after
       (tail : Each (code_of (version_for schema) u) (length t.ops) (length u.ops) (λ p op. op ≡ ops.Done)) where
     abbrev code : Code
     code = code_of (version_for schema) u

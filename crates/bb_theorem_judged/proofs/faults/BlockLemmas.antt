@@ -122,7 +122,7 @@ module _ (schema : Schema) (part : Part) (place : Place) where
   IsGone loops ended b = (scope : Scope) → Tidy scope → (s : Buffer) → Keeps scope place None s
       → Agrees place (statements_faults schema part loops ended (names_of scope) b) (Leaves place scope (after_statements schema (names_of scope) b) (ended || block_ends b)) (statements_code schema part loops ended b s)
 
-  -- a block behind another scope, whose names it forgets
+  -- a block after another scope, whose names it forgets
   pub behind : (scope : Scope) (tidy : Tidy scope) (inner : Names) (loops : ℕ) (b : BlockTree) (t : Buffer) → Moves place scope inner None t → IsGone loops false b
       → Agrees place (statements_faults schema part loops false inner b)
       (λ (r : Bool × Buffer). (r.0 ≡ block_ends b) × Levelled place scope (judged.back_to (names_of scope) (after_statements schema inner b)) (leave (mark_of scope) r.1))

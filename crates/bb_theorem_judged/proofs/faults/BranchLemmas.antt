@@ -1,4 +1,4 @@
--- What is left behind blocks and branches: the names with what they hold are those of the judgement.
+-- What is left after blocks and branches: the names with what they hold are those of the judgement.
 use Rattle.std.proofs.Common.{◌≡◌, ℕ, Bool, true, false, cond, Option, Some, None, Ok, refl, subst, sym, ap, ◌∙◌}
 use Rattle.bb_verify_effect.specs.Op.TheVariants as ops
 use Rattle.bb_compile_scope.specs.Place.{Place}
@@ -31,7 +31,7 @@ module _ (place : Place) (scope : Scope) (tidy : Tidy scope) where
   pub level_moves : (names : Names) (t : Buffer) → Levelled place scope names t → Moves place scope names None t
   level_moves names t l = record { begun = l.begun; flawed = l.clean; onto = onto_level scope t.scope l.level tidy; named = l.named }
 
-  -- ---- behind a block
+  -- ---- after a block
 
   pub block_left : (names : Names) (sc : Scope) (t : Buffer) → sc ≡ scope → Moves place scope names None t → Levelled place scope (judged.back_to (names_of scope) names) (leave (mark_of sc) t)
   block_left names sc t same m =

@@ -71,7 +71,7 @@ done_begun part place t start clean = by_part (is_ok (ends_done part))
         (put_keeps t.scope place Done t None (record { same = refl; begun = start; flawed = clean }))
     by_part false = record { begun = start; clean = clean }
 
--- behind a block: where it began, no flaw, and whether it has ended
+-- after a block: where it began, no flaw, and whether it has ended
 pub record IsBlock (place : Place) (b : BlockTree) (r : Bool × Buffer) : Type 0 where
   pub begun : r.1.start ≡ place
   pub clean : r.1.flaw ≡ None

@@ -150,14 +150,14 @@ action_comes s a (actions.Answer value) tidy = comes_same a tidy
 comes_on : (a b c : Scope) (names : Names) → Onto a b → Comes b c names → Comes a c names
 comes_on a b c names first second = record { onto = onto_on a b c first second.onto; named = second.named }
 
--- behind a block
+-- after a block
 comes_left : (a b : Scope) (names : Names) → Tidy a → Comes a b names → Comes a (back_to (mark_of a) b) (judged.back_to (names_of a) names)
 comes_left a b names tidy c = record {
   onto = onto_level a (back_to (mark_of a) b) (level_left a b c.onto) tidy;
   named = names_left a b tidy c.onto ∙ ap (judged.back_to (names_of a)) c.named;
 }
 
--- behind a block with a name before it
+-- after a block with a name before it
 comes_twice : (a b c : Scope) (names : Names) → Tidy a → Onto a b → Comes b c names → Comes a (back_to (mark_of a) (back_to (mark_of b) c)) (judged.back_to (names_of a) names)
 comes_twice a b c names tidy first second = record {
   onto = onto_level a (back_to (mark_of a) (back_to (mark_of b) c)) (level_twice a b c first second.onto) tidy;

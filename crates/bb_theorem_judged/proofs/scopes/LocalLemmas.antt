@@ -60,7 +60,7 @@ pub length_struck : (s : Schema) (c : ℕ) (ks : List Kind) → length (map (str
 length_struck s c [] = refl
 length_struck s c (k ∷ ks) = ap suc (length_struck s c ks)
 
--- ---- behind a block, and behind branches
+-- ---- after a block, and after branches
 
 pub paired_at : (f : Kind → Kind → Kind) (ks ls : List Kind) (i : ℕ) → f kinds.Any kinds.Any ≡ kinds.Any → length ks ≡ length ls → kind_at (paired f ks ls) i ≡ f (kind_at ks i) (kind_at ls i)
 unfolding paired

@@ -251,7 +251,7 @@ level_struck s c a b names kinds_are = record {
   count = ap length kinds_are ∙ length_struck s c a.kinds;
 }
 
--- ---- behind a block
+-- ---- after a block
 
 left_any : left_kind kinds.Any kinds.Any ≡ kinds.Any
 left_any = refl
@@ -263,7 +263,7 @@ left_free k l stays = by_free (is_free k) refl
     by_free true free = sym free
     by_free false held = stays held ∙ sym held
 
--- a name from before the block holds what it holds behind it
+-- a name from before the block holds what it holds after it
 left_held : (ks ls : List Kind) (ns more : List NamedLocal) → length ks ≡ length ls → AllTaken ks ns → map (named_in (kinds_left ks ls)) (take (length ns) (ns ++ more)) ≡ take (length (map (named_in ks) ns)) (map (named_in ls) (ns ++ more))
 left_held ks ls [] more count all = refl
 left_held ks ls (n ∷ ns) more count all =
@@ -286,7 +286,7 @@ names_left a b tidy o =
     ∙ ap (λ l. take (length (map (named_in a.kinds) a.names)) (map (named_in b.kinds) l)) (sym o.names)))
     (frees_same (kinds_left a.kinds b.kinds) a.kinds (level_left a b o).count (level_left a b o).free)
 
--- behind a block whose names are forgotten, and then those before it
+-- after a block whose names are forgotten, and then those before it
 pub level_twice : (a b c : Scope) → Onto a b → Onto b c → Levels a (back_to (mark_of a) (back_to (mark_of b) c))
 level_twice a b c first second =
     let inner = back_to (mark_of b) c in
@@ -310,7 +310,7 @@ names_twice a b c tidy first second =
     ∙ (held_twice a.kinds b.kinds c.kinds a.names first.more (first.more ++ second.more) (sym second.count) (taken_on a.kinds b.kinds a.names first.stays tidy.taken)
     ∙ ap (λ l. take (length (map (named_in a.kinds) a.names)) (map (named_in c.kinds) l)) (sym (onto_on a b c first second).names)))
 
--- ---- behind branches
+-- ---- after branches
 
 met_any : met_kind kinds.Any kinds.Any ≡ kinds.Any
 met_any = refl

@@ -34,7 +34,7 @@ abbrev pub EachLabel : List Label → Type 0
 EachLabel [] = Unit {0}
 EachLabel (l ∷ ls) = (l.place ≤ OP_LIMIT) × AreKinds l.kinds × EachLabel ls
 
--- labels, each at a later place than the one before, and the first behind an op: so there are no more than ops
+-- labels, each at a later place than the one before, and the first after an op: so there are no more than ops
 pub record AreLabels (labels : List Label) (last : Label) (count : ℕ) : Type 0 where
   pub each : EachLabel labels
   pub few : length labels + 1 ≤ last.place

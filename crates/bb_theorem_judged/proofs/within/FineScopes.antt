@@ -277,7 +277,7 @@ module _ (s : Schema) (sf : Fits s) where
   bound_in a (bindings.As name unit class) = class_in s sf class
   bound_in a (bindings.Linked name unit slot) = partner_of slot (unit_class a unit)
 
-  -- behind a block
+  -- after a block
   scoped_after : (a b : Scope) → Scoped a → Scoped b → Scoped (back_to (mark_of a) b)
   scoped_after a b one two = scoped_back (mark_of a) b one.kinds_are two
 

@@ -15,7 +15,7 @@ use Rattle.bb_code.proofs.Laws.{range_at, no_fault}
 use Rattle.bb_verify.specs.nesting.Loops.{lesser, lowest_outside, depth, place_due, loop_at, loops}
 use Rattle.bb_verify.proofs.nesting_lemmas.LoopInversion.{place_due_ok}
 
--- ---- two loops of the list, one behind the other
+-- ---- two loops of the list, one after the other
 
 next_is : (ls : List Loop) (i : ℕ) (d : Loop) → i < length ls → drop i ls ≡ get_or ls i d ∷ drop (i + 1) ls
 next_is ls i d lt = drop-cons ls i d lt ∙ ap (λ k. get_or ls i d ∷ drop k ls) (sym (add-one i))
