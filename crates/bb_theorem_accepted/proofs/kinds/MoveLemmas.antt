@@ -16,7 +16,7 @@ use Rattle.bb_compile_scope.specs.declared.scope.NamedLocal.{NamedLocal}
 use Rattle.bb_compile_scope.specs.declared.scope.Scope.{Scope}
 use Rattle.bb_compile_buffer.specs.declared.buffer.Buffer.{Buffer}
 use Rattle.bb_compile_scope.specs.Kinds.{class_of, is_live, unit_of, assigned_unit, assigned}
-use Rattle.bb_compile_scope.proofs.Laws.{taken_within, at_same, at_other, free_first}
+use Rattle.bb_compile_scope.proofs.Laws.{taken_within, at_same, at_other, free_first, struck_at}
 use Rattle.bb_verify.specs.Tables.{known_kind}
 use Rattle.bb_theorem_accepted.proofs.kinds.UnderLemmas.{descends_same}
 use Rattle.bb_theorem_accepted.proofs.kinds.KnowLemmas.{HasLocal, AllTaken, Agree, aged, is_sequence, sequence_aged, under_value, taken_on, agree_on}
