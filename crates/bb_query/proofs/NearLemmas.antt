@@ -13,12 +13,11 @@ use Rattle.bb_pattern.specs.Holds.{holds, holds_each, holds_some}
 use Rattle.bb_pattern.specs.View.{trees_of}
 use Rattle.bb_space.specs.declared.index.leaf.Leaf.{Leaf}
 use Rattle.bb_space.specs.index.Leaf.{fits_leaf}
-use Rattle.bb_space.specs.index.Stretches.{is_among}
-use Rattle.bb_space.proofs.index_lemmas.Laws.{meets_among}
+use Rattle.bb_space.specs.index.Among.{is_among}
 use Rattle.bb_space.specs.Spaces.{Spaces, membership, values_in, members, AreCandidates}
 use Rattle.bb_query.specs.proving.Enough.{AreEnough, among}
 use Rattle.bb_query.specs.proving.Tests.{Asks}
-use Rattle.bb_space.proofs.Laws.{keys_rise, any_filter}
+use Rattle.bb_space.proofs.Laws.{keys_rise, any_filter, meets_among}
 
 -- a list that is enough for a test is enough for one that asks more
 pub enough_of : (t : Spaces) (space : ℕ) (test other : List DimValue → Bool) (list : List ℕ) → ((values : List DimValue) → other values ≡ true → test values ≡ true) → AreEnough t space test list → AreEnough t space other list

@@ -7,11 +7,11 @@ use Rattle.std.proofs.lemmas.List.Kept.{IsStrictlySortedBy-filter}
 use Rattle.bb_pattern.specs.declared.value.DimValue.{DimValue}
 use Rattle.bb_space.specs.declared.index.leaf.Leaf.{Leaf}
 use Rattle.bb_space.specs.declared.index.place.Place.{Place}
-use Rattle.bb_space.specs.index.Places.{has}
+use Rattle.bb_space.specs.index.proving.Places.{has}
 use Rattle.bb_space.specs.index.Leaf.{fits_leaf}
-use Rattle.bb_space.specs.index.Stretches.{is_near, IsCount}
-use Rattle.bb_space.specs.index.Pairs.{AreAllNear}
-use Rattle.bb_space.specs.index.Marks.{LeavesAllNear}
+use Rattle.bb_space.specs.index.proving.Stretches.{is_near, IsCount}
+use Rattle.bb_space.specs.index.proving.Pairs.{AreAllNear}
+use Rattle.bb_space.specs.index.proving.Marks.{LeavesAllNear}
 use Rattle.bb_space.proofs.index_lemmas.Laws.{AreOf, by_bool, near_is, passes_near, near_kept, near_all, count_is}
 use Rattle.bb_space.specs.declared.members.Members.{Members}
 use Rattle.bb_space.specs.Candidates.{is_candidate}

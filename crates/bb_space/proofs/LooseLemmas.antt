@@ -12,7 +12,7 @@ use Rattle.bb_pattern.specs.declared.value.DimValue.{DimValue}
 use Rattle.bb_space.specs.declared.members.Members.{Members}
 use Rattle.bb_space.specs.declared.index.place.Place.{Place}
 use Rattle.bb_space.specs.Spaces.{Membership, left, moved}
-use Rattle.bb_space.specs.index.Places.{place_cmp, is_at, is_place_of, has, ArePut, AreIn, AreTaken}
+use Rattle.bb_space.specs.index.proving.Places.{place_cmp, is_at, is_place_of, has, ArePut, AreIn, AreTaken}
 use Rattle.bb_space.specs.proving.Indexed.{membership, is_told, IsLoose, IsIndexed}
 use Rattle.bb_space.specs.proving.Entries.{members_of_entries}
 use Rattle.bb_basis.proofs.EntryLemmas.{get_is_lookup}

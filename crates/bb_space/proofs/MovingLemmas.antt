@@ -7,7 +7,7 @@ use Rattle.bb_pattern.specs.declared.value.DimValue.{DimValue}
 use Rattle.bb_space.specs.declared.members.Members.{Members}
 use Rattle.bb_space.specs.declared.index.place.Place.{Place}
 use Rattle.bb_space.specs.Spaces.{Spaces, moved, after_moved, after_moves}
-use Rattle.bb_space.specs.index.Places.{is_place_of, has, ArePut, AreTaken}
+use Rattle.bb_space.specs.index.proving.Places.{is_place_of, has, ArePut, AreTaken}
 use Rattle.bb_space.specs.proving.Indexed.{membership, seen, IsLoose, AreIndexed, AreLoose, AreReady, is_moved}
 use Rattle.bb_space.proofs.ListLemmas.{get_set_here, get_set_other, at_set, drop_next, dropped, seen_set, seen_same, seen_past}
 use Rattle.bb_space.proofs.index_lemmas.Laws.{by_bool}

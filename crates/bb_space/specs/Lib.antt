@@ -8,5 +8,5 @@ pub mod Passing
 pub mod Fits
 -- definitions that only models and the contracts of private functions use
 pub mod proving
--- the index of a space: the set of the keys of its values, and the ranges in which values can pass a test
+-- the tests of values on one dimension, and the index by which the members that can pass one are found
 pub mod index

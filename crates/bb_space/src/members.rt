@@ -7,7 +7,7 @@ ghost use Rattle.bb_space.specs.Spaces.{entered, left, moved};
 ghost use Rattle.bb_space.specs.Candidates.{candidates_of};
 ghost use Rattle.bb_space.specs.Passing.{passes, passes_one, HaveAllPassing};
 ghost use Rattle.bb_space.specs.proving.Entries.{members_of_entries};
-ghost use Rattle.bb_space.specs.index.Places.{ArePut, AreIn, AreTaken};
+ghost use Rattle.bb_space.specs.index.proving.Places.{ArePut, AreIn, AreTaken};
 ghost use Rattle.bb_space.specs.proving.Indexed.{membership, IsIndexed};
 
 use crate::index::{

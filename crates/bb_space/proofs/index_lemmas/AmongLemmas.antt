@@ -11,7 +11,7 @@ use Rattle.std.proofs.lemmas.Map.Views.{list_any-from_Contains, Contains-from_an
 use Rattle.std.proofs.lemmas.List.Folds.{list_any-append}
 use Rattle.std.proofs.lemmas.List.Kept.{Contains-dedup_nat, Contains-from_dedup}
 use Rattle.bb_basis.proofs.BoolLemmas.{same_truth}
-use Rattle.bb_space.specs.index.Stretches.{is_among}
+use Rattle.bb_space.specs.index.Among.{is_among}
 
 -- two tests of numbers are the same
 pub same_number : (n m : ℕ) → is_eq (nat_cmp n m) ≡ (m == n)

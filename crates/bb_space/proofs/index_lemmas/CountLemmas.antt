@@ -22,9 +22,9 @@ use Rattle.bb_space.specs.declared.index.leaf.Leaf.TheVariants.{Ordered, Is}
 use Rattle.bb_space.specs.declared.index.place.Place.{Place}
 use Rattle.bb_space.specs.index.Leaf.{related, labelled, fits_leaf}
 use Rattle.bb_space.specs.index.Candidates.{dim_of, may_pass, is_exact}
-use Rattle.bb_space.specs.index.Places.{place_cmp, is_at, next_of}
+use Rattle.bb_space.specs.index.proving.Places.{place_cmp, is_at, next_of}
 use Rattle.bb_space.specs.declared.index.stretch.Stretch.{Stretch}
-use Rattle.bb_space.specs.index.Stretches.{stretch_of, turned_of, places_in, asked, HasNoTurned, IsCount}
+use Rattle.bb_space.specs.index.proving.Stretches.{stretch_of, turned_of, places_in, asked, HasNoTurned, IsCount}
 use Rattle.bb_space.proofs.index_lemmas.AmongLemmas.{same_number}
 use Rattle.bb_space.proofs.index_lemmas.PlaceLemmas.{by_bool, place_itself, place_from, stands, stands_as}
 use Rattle.bb_space.proofs.index_lemmas.NearLemmas.{AreOf, is_had}

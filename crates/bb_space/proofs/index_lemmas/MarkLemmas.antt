@@ -9,8 +9,8 @@ use Rattle.bb_space.specs.declared.index.leaf.Leaf.{Leaf}
 use Rattle.bb_space.specs.declared.index.place.Place.{Place}
 use Rattle.bb_space.specs.index.Candidates.{may_pass}
 use Rattle.bb_space.specs.index.Leaf.{fits_leaf, fit_each}
-use Rattle.bb_space.specs.index.Stretches.{is_near}
-use Rattle.bb_space.specs.index.Marks.{LeavesNear}
+use Rattle.bb_space.specs.index.proving.Stretches.{is_near}
+use Rattle.bb_space.specs.index.proving.Marks.{LeavesNear}
 use Rattle.bb_space.proofs.index_lemmas.CandidateLemmas.{passing}
 use Rattle.bb_space.proofs.index_lemmas.NearLemmas.{AreOf}
 use Rattle.bb_space.proofs.index_lemmas.StretchLemmas.{by_value, near_is}

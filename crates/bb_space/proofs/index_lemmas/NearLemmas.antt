@@ -9,7 +9,7 @@ use Rattle.std.proofs.lemmas.Bool.{and_parts, and_from, or_left, or_right, or_ca
 use Rattle.bb_basis.proofs.BoolLemmas.{same_truth}
 use Rattle.bb_pattern.specs.declared.value.DimValue.{DimValue}
 use Rattle.bb_space.specs.declared.index.place.Place.{Place}
-use Rattle.bb_space.specs.index.Places.{place_cmp, place_of, next_of, is_at, has}
+use Rattle.bb_space.specs.index.proving.Places.{place_cmp, place_of, next_of, is_at, has}
 use Rattle.bb_space.proofs.index_lemmas.PlaceLemmas.{place_in, place_itself, by_place, is_here, stands, at_of, place_from}
 
 -- ---- a unit whose place passes a test

@@ -19,9 +19,10 @@ use Rattle.bb_space.specs.declared.index.place.Place.{Place}
 use Rattle.bb_space.specs.declared.index.stretch.Stretch.{Stretch}
 use Rattle.bb_space.specs.index.Candidates.{may_pass, dim_of}
 use Rattle.bb_space.specs.index.Leaf.{fits_leaf, fit_each}
-use Rattle.bb_space.specs.index.Places.{place_cmp, sort_of, key_of, next_of, place_of, is_place_of, is_at, has}
-use Rattle.bb_space.specs.index.Stretches.{spot, stretch_of, has_one_key, turned, beside, all_beside, is_among, places_in, stands_in}
-use Rattle.bb_space.specs.index.Pairs.{is_near_both, AreThere, Tells, IsAsked, AreNearBoth, AreAllNear}
+use Rattle.bb_space.specs.index.proving.Places.{place_cmp, sort_of, key_of, next_of, place_of, is_place_of, is_at, has}
+use Rattle.bb_space.specs.index.Among.{is_among}
+use Rattle.bb_space.specs.index.proving.Stretches.{spot, stretch_of, has_one_key, turned, beside, all_beside, places_in, stands_in}
+use Rattle.bb_space.specs.index.proving.Pairs.{is_near_both, AreThere, Tells, IsAsked, AreNearBoth, AreAllNear}
 use Rattle.bb_space.proofs.index_lemmas.CandidateLemmas.{passing}
 use Rattle.bb_space.proofs.index_lemmas.NearLemmas.{kept, is_had, AreOf}
 use Rattle.bb_space.proofs.index_lemmas.PlaceLemmas.{equal, place_in, place_itself, is_here, of_unit, at_of}

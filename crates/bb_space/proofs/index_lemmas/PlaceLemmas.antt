@@ -13,7 +13,7 @@ use Rattle.std.proofs.lemmas.Option.{slice_get_within}
 use Rattle.bb_basis.proofs.BoolLemmas.{cond_or_true}
 use Rattle.bb_pattern.specs.declared.value.DimValue.{DimValue}
 use Rattle.bb_space.specs.declared.index.place.Place.{Place}
-use Rattle.bb_space.specs.index.Places.{place_cmp, sort_of, key_of, next_of, place_of, is_value_at, is_at, is_place_of, has, ArePut, AreIn, AreTaken}
+use Rattle.bb_space.specs.index.proving.Places.{place_cmp, sort_of, key_of, next_of, place_of, is_value_at, is_at, is_place_of, has, ArePut, AreIn, AreTaken}
 
 pub place_total : IsTotalOrder place_cmp
 place_total = then_total (on_total (λ (p : Place). p.dim) nat_cmp_total) (then_total (on_total (λ (p : Place). p.sort) nat_cmp_total) (then_total (on_total (λ (p : Place). p.key) int_cmp_total) (then_total (on_total (λ (p : Place). p.edge) nat_cmp_total) (then_total (on_total (λ (p : Place). p.next_sort) nat_cmp_total) (then_total (on_total (λ (p : Place). p.next_key) int_cmp_total) (then_total (on_total (λ (p : Place). p.next_edge) nat_cmp_total) (on_total (λ (p : Place). p.unit) nat_cmp_total)))))))

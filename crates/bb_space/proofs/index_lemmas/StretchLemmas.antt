@@ -19,8 +19,8 @@ use Rattle.bb_space.specs.declared.index.leaf.Leaf.TheVariants.{Ordered, Is}
 use Rattle.bb_space.specs.declared.index.place.Place.{Place}
 use Rattle.bb_space.specs.declared.index.stretch.Stretch.{Stretch}
 use Rattle.bb_space.specs.index.Candidates.{reaches, may_pass, dim_of}
-use Rattle.bb_space.specs.index.Places.{place_cmp, sort_of, key_of, place_of}
-use Rattle.bb_space.specs.index.Stretches.{spot, intervals, stretch_of, turned, places_in, stands_in, is_near}
+use Rattle.bb_space.specs.index.proving.Places.{place_cmp, sort_of, key_of, place_of}
+use Rattle.bb_space.specs.index.proving.Stretches.{spot, intervals, stretch_of, turned, places_in, stands_in, is_near}
 use Rattle.bb_space.proofs.index_lemmas.PlaceLemmas.{place_total, place_itself, equal, by_bool, by_number}
 use Rattle.bb_space.proofs.index_lemmas.NearLemmas.{AreOf, found_by}
 

@@ -1,5 +1,6 @@
 -- Whether a value can pass a test, judged by the low end of an interval or by the label.
 use Rattle.std.specs.Prelude.{ℕ, ℤ, Bool, true, false, ◌&&◌, ◌==◌, int_le, int_lt, if◌then◌else◌}
+use Rattle.std.specs.Ordering.{int_eq}
 use Rattle.bb_pattern.specs.declared.pattern.Relation.{Relation}
 use Rattle.bb_pattern.specs.declared.pattern.Relation.TheVariants.{Within, Covers, Overlaps, Less, More}
 use Rattle.bb_pattern.specs.declared.value.DimValue.{DimValue}
@@ -33,3 +34,9 @@ abbrev pub is_exact : Leaf → Bool
 is_exact (Ordered More dim low high) = true
 is_exact (Ordered relation dim low high) = false
 is_exact (Is dim set label) = true
+
+-- whether the intervals that can pass the test begin with one number, or it asks for one label
+abbrev pub asks_one : Leaf → Bool
+asks_one (Ordered Within dim low high) = int_eq low high
+asks_one (Ordered relation dim low high) = false
+asks_one (Is dim set label) = true

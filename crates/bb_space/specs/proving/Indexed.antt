@@ -7,7 +7,7 @@ use Rattle.bb_space.specs.declared.members.Members.{Members}
 use Rattle.bb_space.specs.declared.index.place.Place.{Place}
 use Rattle.bb_space.specs.Spaces.{Membership, Spaces}
 use Rattle.bb_space.specs.proving.Entries.{members_of_entries}
-use Rattle.bb_space.specs.index.Places.{has, is_at, is_place_of}
+use Rattle.bb_space.specs.index.proving.Places.{has, is_at, is_place_of}
 
 abbrev pub membership : Members → Membership
 membership m = members_of_entries m.values.entries

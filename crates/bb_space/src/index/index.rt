@@ -1,7 +1,7 @@
 //! The index of a space: the places of all members, in order. `members.rt` keeps it consistent with the members.
 
 ghost use Rattle.std.specs.Prelude.{OnOk};
-ghost use Rattle.bb_space.specs.index.Places.{ArePut, AreIn, AreTaken};
+ghost use Rattle.bb_space.specs.index.proving.Places.{ArePut, AreIn, AreTaken};
 
 use crate::index::place::{Place, next_of, stays};
 use bb_basis::Memory;

@@ -1,9 +1,8 @@
 //! One test of a pattern, with its operand's value. Queries ask the spaces for members that pass it.
 
 ghost use Rattle.std.specs.Prelude.{◌≡◌, slice_get};
-ghost use Rattle.bb_space.specs.index.Candidates.{dim_of, is_exact};
+ghost use Rattle.bb_space.specs.index.Candidates.{dim_of, is_exact, asks_one};
 ghost use Rattle.bb_space.specs.index.Leaf.{related, labelled, fits_leaf};
-ghost use Rattle.bb_space.specs.index.Stretches.{has_one_key, stretch_of};
 
 use crate::index::stretch::Stretch;
 use bb_pattern::{DimValue, Relation};
@@ -81,7 +80,7 @@ impl Leaf {
 
     /// Returns whether the test asks for one low end or one label. Its candidates are then found in ascending order.
     pub fn has_one_key(&self) -> bool
-        ensures { result ≡ has_one_key (stretch_of self.now) }
+        ensures { result ≡ asks_one self.now }
     {
         Stretch::of(self).has_one_key()
     }

@@ -3,8 +3,9 @@
 ghost use Rattle.std.specs.Prelude.{◌≡◌, ℕ, ◌||◌, IfSome, IsTrue, OnOk, nat_le, length};
 ghost use Rattle.std.specs.List.Sorted.{IsStrictlySortedBy};
 ghost use Rattle.std.specs.Ordering.{nat_cmp};
-ghost use Rattle.bb_space.specs.index.Stretches.{places_in, stands_in, is_near, asked, is_among};
-ghost use Rattle.bb_space.specs.index.Stretches.{HasNoTurned, IsCount};
+ghost use Rattle.bb_space.specs.index.Among.{is_among};
+ghost use Rattle.bb_space.specs.index.proving.Stretches.{places_in, stands_in, is_near, asked};
+ghost use Rattle.bb_space.specs.index.proving.Stretches.{HasNoTurned, IsCount};
 
 use crate::index::leaf::Leaf;
 use crate::index::place::Place;

@@ -4,7 +4,7 @@
 
 ghost use Rattle.std.specs.Prelude.{◌≡◌, IfOk, IfSome};
 ghost use Rattle.bb_space.specs.index.Candidates.{dim_of};
-ghost use Rattle.bb_space.specs.index.Pairs.{Tells, IsAsked, AreNearBoth, AreAllNear};
+ghost use Rattle.bb_space.specs.index.proving.Pairs.{Tells, IsAsked, AreNearBoth, AreAllNear};
 
 use crate::index::leaf::Leaf;
 use crate::index::near::{are_few, collect, rise};

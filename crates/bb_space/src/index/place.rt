@@ -1,7 +1,7 @@
 //! The place of a value in the index of a space. `index.rt` keeps the places of all members in order.
 
 ghost use Rattle.std.specs.Prelude.{◌≡◌, ◌<◌, true, length, slice_get};
-ghost use Rattle.bb_space.specs.index.Places.{sort_of, key_of, next_of, place_of, is_at};
+ghost use Rattle.bb_space.specs.index.proving.Places.{sort_of, key_of, next_of, place_of, is_at};
 
 use bb_pattern::DimValue;
 use bb_schema::UnitId;

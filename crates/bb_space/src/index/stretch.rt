@@ -4,8 +4,8 @@ ghost use Rattle.std.specs.Prelude.{◌≡◌, ◌<◌, ◌^◌, length};
 ghost use Rattle.std.specs.List.Sorted.{IsStrictlySortedBy};
 ghost use Rattle.std.specs.Map.Iter.{ShowsInOrder, deref};
 ghost use Rattle.bb_space.specs.declared.index.place.Place.{Place as At};
-ghost use Rattle.bb_space.specs.index.Places.{place_cmp};
-ghost use Rattle.bb_space.specs.index.Stretches.{spot, intervals, stretch_of, turned, turned_of, has_one_key, beside, all_beside, places_in};
+ghost use Rattle.bb_space.specs.index.proving.Places.{place_cmp};
+ghost use Rattle.bb_space.specs.index.proving.Stretches.{spot, intervals, stretch_of, turned, turned_of, has_one_key, beside, all_beside, places_in};
 
 use crate::index::leaf::Leaf;
 use crate::index::place::Place;

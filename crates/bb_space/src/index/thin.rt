@@ -2,8 +2,8 @@
 //! them are visited in the time of one look-up of a unit. `members.rt` calls it.
 
 ghost use Rattle.std.specs.Prelude.{◌≡◌, ℕ, true, IfOk, IfSome, filter};
-ghost use Rattle.bb_space.specs.index.Stretches.{stands_in, is_near};
-ghost use Rattle.bb_space.specs.index.Marks.{is_kept, is_left, LeavesNear, LeavesAllNear};
+ghost use Rattle.bb_space.specs.index.proving.Stretches.{stands_in, is_near};
+ghost use Rattle.bb_space.specs.index.proving.Marks.{is_kept, is_left, LeavesNear, LeavesAllNear};
 
 use crate::index::costs::{FEW_UNITS, STEPS_TO_A_UNIT};
 use crate::index::leaf::Leaf;

@@ -1,6 +1,6 @@
 use Rattle.std.proofs.Common.{◌≡◌, ◌<◌, ◌≤◌, ◌+◌, subst, drop, length, Some, refl, arith, slice_get}
 use Rattle.std.proofs.lemmas.Option.{slice_get_read}
-use Rattle.bb_space.specs.index.Places.{ArePut}
+use Rattle.bb_space.specs.index.proving.Places.{ArePut}
 use Rattle.bb_space.specs.proving.Indexed.{is_moved}
 use Rattle.bb_space.proofs.LooseLemmas.{put_ready}
 use Rattle.bb_space.proofs.MovingLemmas.{preparing_none, preparing_at, preparing_over, prepared_same, prepared_loose, preparing_more, all_ready}

@@ -2,7 +2,7 @@ use Rattle.std.proofs.Common.{◌≡◌, ◌<◌, ◌≤◌, ◌+◌, ◌∙◌,
 use Rattle.std.specs.FinMap as fin
 use Rattle.std.proofs.lemmas.Option.{slice_get_read}
 use Rattle.bb_space.specs.proving.Indexed.{membership}
-use Rattle.bb_space.specs.index.Places.{AreTaken}
+use Rattle.bb_space.specs.index.proving.Places.{AreTaken}
 use Rattle.bb_space.proofs.MovingLemmas.{settling_at, settled_over, settled_same, settled_more, all_settled}
 use Rattle.bb_space.proofs.moving.settle_all.Goals as goal
 

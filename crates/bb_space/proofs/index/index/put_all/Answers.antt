@@ -1,6 +1,6 @@
 use Rattle.std.proofs.Common.{◌≡◌, get_or, pos, ◌<◌, ◌≤◌, ◌∙◌, true, ap, sym, cond, length, is_eq, arith}
 use Rattle.std.proofs.lemmas.Option.{slice_get-get_or}
-use Rattle.bb_space.specs.index.Places.{place_cmp, place_of, is_at, has}
+use Rattle.bb_space.specs.index.proving.Places.{place_cmp, place_of, is_at, has}
 use Rattle.bb_pattern.specs.declared.value.DimValue.TheVariants.{Interval}
 use Rattle.bb_space.specs.declared.index.place.Place.{Place}
 use Rattle.bb_space.proofs.index_lemmas.PlaceLemmas.{place_in, stays_at, put_none, put_more, in_more, in_over, in_all}

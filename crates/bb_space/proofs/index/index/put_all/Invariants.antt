@@ -1,4 +1,4 @@
-use Rattle.bb_space.specs.index.Places.{ArePut}
+use Rattle.bb_space.specs.index.proving.Places.{ArePut}
 use Rattle.bb_space.proofs.index_lemmas.PlaceLemmas.{AreFirstIn}
 use Rattle.bb_space.proofs.index.index.put_all.Given as goal
 

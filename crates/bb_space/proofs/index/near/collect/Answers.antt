@@ -1,6 +1,6 @@
 use Rattle.std.proofs.Common.{◌≡◌, ◌||◌, ◌==◌, List, [], ◌∷◌, ◌++◌, sym, ap, ◌∙◌, rules}
 use Rattle.std.specs.List.{list_any}
-use Rattle.bb_space.specs.index.Stretches.{is_among}
+use Rattle.bb_space.specs.index.Among.{is_among}
 use Rattle.bb_space.specs.declared.index.place.Place.{Place}
 use Rattle.bb_space.proofs.index_lemmas.AmongLemmas.{among_more}
 use Rattle.bb_space.proofs.index.near.collect.Goals as goal

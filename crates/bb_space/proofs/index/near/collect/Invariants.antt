@@ -1,6 +1,7 @@
 use Rattle.std.proofs.Common.{◌≡◌, ℕ, ◌||◌, ◌==◌}
 use Rattle.std.specs.List.{list_any}
-use Rattle.bb_space.specs.index.Stretches.{stands_in, is_among}
+use Rattle.bb_space.specs.index.Among.{is_among}
+use Rattle.bb_space.specs.index.proving.Stretches.{stands_in}
 use Rattle.bb_space.proofs.index.near.collect.Given as goal
 
 abbrev pub invariant-loop-place : goal.invariant-loop-place

@@ -1,6 +1,6 @@
 use Rattle.std.proofs.Common.{◌≡◌, ◌∙◌, sym, ap, length, rules, arith, inl}
 use Rattle.bb_space.specs.declared.index.stretch.Stretch.{Stretch}
-use Rattle.bb_space.specs.index.Stretches.{places_in}
+use Rattle.bb_space.specs.index.proving.Stretches.{places_in}
 use Rattle.bb_space.proofs.index.near.count_passing.Goals as goal
 
 pub count-requires-clause-fits : goal.count-requires-clause-fits

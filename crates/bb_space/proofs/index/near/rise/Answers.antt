@@ -6,7 +6,7 @@ use Rattle.std.proofs.Math.Dec.{eqb}
 use Rattle.std.proofs.lemmas.List.Filters.{dedup_is}
 use Rattle.std.proofs.lemmas.List.Kept.{IsStrictlySortedBy-dedup}
 use Rattle.std.proofs.lemmas.List.Sorted.{list_any-IsPermutation}
-use Rattle.bb_space.specs.index.Stretches.{is_among}
+use Rattle.bb_space.specs.index.Among.{is_among}
 use Rattle.bb_space.proofs.index_lemmas.AmongLemmas.{among_dedup, same_order}
 use Rattle.bb_space.proofs.index.near.rise.Goals as goal
 

@@ -4,8 +4,8 @@ use Rattle.bb_basis.proofs.ListLemmas.{if_some}
 use Rattle.bb_pattern.specs.declared.pattern.Relation.TheVariants.{Within}
 use Rattle.bb_space.specs.declared.index.leaf.Leaf.TheVariants.{Ordered}
 use Rattle.bb_space.specs.index.Candidates.{dim_of}
-use Rattle.bb_space.specs.index.Pairs.{Tells, IsAsked, AreNearBoth}
-use Rattle.bb_space.specs.index.Stretches.{stretch_of, has_one_key, all_beside}
+use Rattle.bb_space.specs.index.proving.Pairs.{Tells, IsAsked, AreNearBoth}
+use Rattle.bb_space.specs.index.proving.Stretches.{stretch_of, has_one_key, all_beside}
 use Rattle.bb_space.specs.declared.index.stretch.Stretch.{Stretch}
 use Rattle.bb_space.proofs.index_lemmas.MarkLemmas.{each_fits}
 use Rattle.bb_space.proofs.index_lemmas.PairLemmas.{all_near}

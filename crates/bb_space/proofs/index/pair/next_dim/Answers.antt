@@ -1,5 +1,5 @@
 use Rattle.std.proofs.Common.{◌+◌, nat_le, length, refl, sym, ap₂, ◌∙◌}
-use Rattle.bb_space.specs.index.Stretches.{places_in}
+use Rattle.bb_space.specs.index.proving.Stretches.{places_in}
 use Rattle.bb_space.proofs.index_lemmas.PairLemmas.{tells_first}
 use Rattle.bb_space.proofs.index.pair.next_dim.Goals as goal
 

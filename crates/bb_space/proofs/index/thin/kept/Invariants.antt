@@ -1,6 +1,6 @@
 use Rattle.std.proofs.Common.{◌≡◌, ◌++◌, drop}
 use Rattle.std.specs.Prelude.{filter}
-use Rattle.bb_space.specs.index.Marks.{is_kept}
+use Rattle.bb_space.specs.index.proving.Marks.{is_kept}
 use Rattle.bb_space.proofs.index.thin.kept.Given as goal
 
 abbrev pub invariant-loop-unit : goal.invariant-loop-unit

@@ -1,6 +1,6 @@
 use Rattle.std.proofs.Common.{◌≡◌, ◌∷◌, ℕ, Bool, subst, rules}
-use Rattle.bb_space.specs.index.Stretches.{stands_in}
-use Rattle.bb_space.specs.index.Marks.{is_kept, is_left}
+use Rattle.bb_space.specs.index.proving.Stretches.{stands_in}
+use Rattle.bb_space.specs.index.proving.Marks.{is_kept, is_left}
 use Rattle.bb_space.proofs.index_lemmas.MarkLemmas.{LeftBut, left_but_less}
 use Rattle.bb_space.proofs.index.thin.mark_all.Goals as goal
 

@@ -1,6 +1,6 @@
 use Rattle.std.proofs.Common.{◌≡◌, ℕ, true}
-use Rattle.bb_space.specs.index.Stretches.{stands_in}
-use Rattle.bb_space.specs.index.Marks.{is_left}
+use Rattle.bb_space.specs.index.proving.Stretches.{stands_in}
+use Rattle.bb_space.specs.index.proving.Marks.{is_left}
 use Rattle.bb_space.proofs.index_lemmas.MarkLemmas.{LeftBut}
 use Rattle.bb_space.proofs.index.thin.mark_all.Given as goal
 

@@ -1,4 +1,4 @@
-use Rattle.bb_space.specs.index.Marks.{LeavesAllNear}
+use Rattle.bb_space.specs.index.proving.Marks.{LeavesAllNear}
 use Rattle.bb_space.proofs.index.thin.thin_all.Given as goal
 
 abbrev pub invariant-loop-test : goal.invariant-loop-test

@@ -1,7 +1,7 @@
 use Rattle.std.proofs.Common.{◌≡◌, true, ap, ◌∙◌, rules}
 use Rattle.std.specs.Prelude.{filter}
-use Rattle.bb_space.specs.index.Stretches.{is_near}
-use Rattle.bb_space.specs.index.Marks.{is_kept}
+use Rattle.bb_space.specs.index.proving.Stretches.{is_near}
+use Rattle.bb_space.specs.index.proving.Marks.{is_kept}
 use Rattle.bb_space.proofs.index_lemmas.MarkLemmas.{leaves_near}
 use Rattle.bb_space.proofs.index.thin.thin_by.Goals as goal
 

@@ -4,7 +4,8 @@ use Rattle.std.specs.Ordering.{nat_cmp}
 use Rattle.std.specs.BTreeMap.{is_at as meets}
 use Rattle.bb_space.specs.Candidates.{is_candidate}
 use Rattle.bb_space.specs.proving.Indexed.{membership}
-use Rattle.bb_space.specs.index.Stretches.{is_near, is_among}
+use Rattle.bb_space.specs.index.Among.{is_among}
+use Rattle.bb_space.specs.index.proving.Stretches.{is_near}
 use Rattle.bb_space.proofs.index_lemmas.Laws.{meets_among}
 use Rattle.bb_space.proofs.CandidateLemmas.{candidates_are}
 use Rattle.bb_space.proofs.IndexLemmas.{near_candidate}

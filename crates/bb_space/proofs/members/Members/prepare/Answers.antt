@@ -3,7 +3,7 @@ use Rattle.std.specs.Prelude.{option_map}
 use Rattle.std.specs.FinMap as fin
 use Rattle.std.proofs.lemmas.Result.{on_ok_weaker}
 use Rattle.bb_space.specs.proving.Indexed.{membership}
-use Rattle.bb_space.specs.index.Places.{AreIn}
+use Rattle.bb_space.specs.index.proving.Places.{AreIn}
 use Rattle.bb_basis.proofs.EntryLemmas.{get_is_lookup}
 use Rattle.bb_space.proofs.members.Members.prepare.Goals as goal
 

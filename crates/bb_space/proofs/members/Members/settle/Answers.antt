@@ -2,7 +2,7 @@ use Rattle.std.proofs.Common.{◌≡◌, ◌∙◌, sym, ap, subst, Some, None, 
 use Rattle.std.specs.Prelude.{option_map}
 use Rattle.std.specs.FinMap as fin
 use Rattle.bb_space.specs.proving.Indexed.{membership}
-use Rattle.bb_space.specs.index.Places.{AreTaken}
+use Rattle.bb_space.specs.index.proving.Places.{AreTaken}
 use Rattle.bb_basis.proofs.EntryLemmas.{get_is_lookup}
 use Rattle.bb_space.proofs.members.Members.settle.Goals as goal
 

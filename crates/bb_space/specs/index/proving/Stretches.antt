@@ -13,7 +13,7 @@ use Rattle.bb_space.specs.declared.index.leaf.Leaf.TheVariants.{Ordered, Is}
 use Rattle.bb_space.specs.declared.index.place.Place.{Place}
 use Rattle.bb_space.specs.declared.index.stretch.Stretch.{Stretch}
 use Rattle.bb_space.specs.index.Candidates.{is_exact}
-use Rattle.bb_space.specs.index.Places.{place_cmp}
+use Rattle.bb_space.specs.index.proving.Places.{place_cmp}
 
 -- a place that no value has: before the values of a sort and key, or after them
 abbrev pub spot : ℕ → ℕ → ℤ → ℕ → Place
@@ -71,10 +71,6 @@ beside pin next = record {
 -- among the values of the pin's sort and key, those whose units have a value in a range on the next dimension
 abbrev pub all_beside : Place → Stretch → Stretch
 all_beside pin next = record { first = beside pin next.first; end = beside pin next.end }
-
--- whether the unit is in a list
-abbrev pub is_among : ℕ → List ℕ → Bool
-is_among n list = list_any (λ m. m == n) list
 
 -- the places of a range
 abbrev pub places_in : Stretch → BTreeSet Place → List Place

@@ -5,7 +5,7 @@ use Rattle.std.specs.BTreeSet.{BTreeSet}
 use Rattle.bb_space.specs.declared.index.leaf.Leaf.{Leaf}
 use Rattle.bb_space.specs.declared.index.place.Place.{Place}
 use Rattle.bb_space.specs.declared.index.thin.Marks.{Marks}
-use Rattle.bb_space.specs.index.Stretches.{is_near}
+use Rattle.bb_space.specs.index.proving.Stretches.{is_near}
 
 -- whether the unit is marked or has no mark; the marks belong to consecutive units, beginning with the first
 abbrev pub is_kept : ℕ → List Bool → ℕ → Bool

@@ -9,8 +9,9 @@ use Rattle.bb_space.specs.declared.index.leaf.Leaf.{Leaf}
 use Rattle.bb_space.specs.declared.index.place.Place.{Place}
 use Rattle.bb_space.specs.declared.index.stretch.Stretch.{Stretch}
 use Rattle.bb_space.specs.index.Leaf.{fits_leaf, fit_each}
-use Rattle.bb_space.specs.index.Places.{has, next_of, is_place_of}
-use Rattle.bb_space.specs.index.Stretches.{turned, all_beside, is_among, stands_in}
+use Rattle.bb_space.specs.index.proving.Places.{has, next_of, is_place_of}
+use Rattle.bb_space.specs.index.Among.{is_among}
+use Rattle.bb_space.specs.index.proving.Stretches.{turned, all_beside, stands_in}
 
 -- whether the unit has a place in the range of both tests, or of a reversed interval on the next dimension or this one
 abbrev pub is_near_both : Place → Stretch → BTreeSet Place → ℕ → Bool
