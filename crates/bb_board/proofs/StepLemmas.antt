@@ -9,7 +9,7 @@ use Rattle.std.proofs.lemmas.Cmp.{nat_eq_equiv}
 use Rattle.bb_schema.specs.declared.couple.Side.{Side}
 use Rattle.bb_schema.specs.Schema.{Schema, slots_of}
 use Rattle.bb_schema.specs.Couples.{couple_of}
-use Rattle.bb_units.specs.Units.{Units, class_of, is_live, after_delete as without_unit}
+use Rattle.bb_units.specs.Units.{Units, class_of, after_delete as without_unit}
 use Rattle.bb_links.specs.Links.{ends}
 use Rattle.bb_space.specs.Spaces.{is_member, spaces_of}
 use Rattle.bb_board.specs.State.{World}
@@ -21,7 +21,6 @@ use Rattle.bb_board.specs.Named.{NotesChanges}
 use Rattle.bb_board.specs.Outlives.{Outlives}
 use Rattle.bb_board.proofs.NamedLemmas.{same_named, then_named, unlink_named, leave_named, end_named}
 use Rattle.bb_board.proofs.OutliveLemmas.{outlives_same, then_outlives, deleted_outlives}
-use Rattle.bb_board.proofs.PartLemmas.{whole_there}
 
 -- ---- the units are as they were until the end
 
