@@ -18,8 +18,7 @@ use Rattle.bb_schema.specs.Slots.{link_in, link_of}
 use Rattle.bb_schema.specs.Couples.{couple_of, couple_end}
 use Rattle.bb_schema.specs.Ownership.{owns, heirs, strikes}
 use Rattle.bb_schema.specs.Fits as schemas
-use Rattle.bb_schema.proofs.SlotsLaws.{both_related}
-use Rattle.bb_schema.proofs.Laws.{heirs_itself, heirs_owned, strikes_by_heir}
+use Rattle.bb_schema.proofs.Laws.{both_related, heirs_itself, heirs_owned, strikes_by_heir}
 use Rattle.bb_units.specs.declared.unit.Unit.{Unit as OneUnit}
 use Rattle.bb_units.specs.Units.{class_of}
 use Rattle.bb_links.specs.Pairs.{near, far}

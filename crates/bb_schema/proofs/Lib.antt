@@ -15,4 +15,3 @@ pub mod HeirLemmas
 pub mod StrikeLemmas
 pub mod RelationLemmas
 pub mod StruckLemmas
-pub mod SlotsLaws

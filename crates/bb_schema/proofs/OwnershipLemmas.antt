@@ -8,7 +8,9 @@ use Rattle.bb_schema.specs.declared.slot.Slot.{Slot}
 use Rattle.bb_schema.specs.Slots.{link_in}
 use Rattle.bb_schema.specs.Heirs.{related_in}
 use Rattle.bb_schema.specs.proving.Struck.{struck_table}
-use Rattle.bb_schema.proofs.SlotsLaws.{AreSound, leads_by, heirs_first, heirs_closed, struck_by, strikes_above, table_told}
+use Rattle.bb_schema.proofs.HeirLemmas.{AreSound, leads_by, heirs_first, heirs_closed}
+use Rattle.bb_schema.proofs.StrikeLemmas.{struck_by, strikes_above}
+use Rattle.bb_schema.proofs.StruckLemmas.{table_told}
 use Rattle.bb_schema.specs.Schema.{Schema, descends}
 use Rattle.bb_schema.specs.Fits.{IsSlot, Fits}
 use Rattle.bb_schema.specs.Ownership.{heirs, strikes}

@@ -11,8 +11,7 @@ use Rattle.bb_schema_classes.proofs.Laws.{climbs_sound, descends_complete}
 use Rattle.bb_schema.specs.Schema.{Schema, descends}
 use Rattle.bb_schema.specs.Ownership.{strikes}
 use Rattle.bb_schema.specs.Fits as schemas
-use Rattle.bb_schema.proofs.SlotsLaws.{goes_up}
-use Rattle.bb_schema.proofs.Laws.{strikes_up}
+use Rattle.bb_schema.proofs.Laws.{goes_up, strikes_up}
 use Rattle.bb_verify_effect.specs.Kind.{Kind}
 use Rattle.bb_verify_effect.specs.Kind.TheVariants.{Any, Int, Text, Bool as Truth, Label, Interval, Ref, Old, Seq}
 use Rattle.bb_verify_effect.specs.Kinds.{is_same_plain, struck}

@@ -1,6 +1,6 @@
 use Rattle.std.proofs.lemmas.Bool.Decides.{Decides-at}
 use Rattle.bb_schema_classes.proofs.Laws.{label_sets_decide, classes_decide}
-use Rattle.bb_schema.proofs.SlotsLaws.{slots_decide}
+use Rattle.bb_schema.proofs.SlotsSameLemmas.{slots_decide}
 use Rattle.bb_schema.proofs.SameLemmas.{spaces_decide, differs, agrees, all_same}
 use Rattle.bb_schema.proofs.schema.Schema.same.Goals as goal
 
