@@ -1,4 +1,6 @@
 pub mod PlaceLemmas
+pub mod SlotLemmas
+pub mod BlockLemmas
 pub mod LayoutLemmas
 pub mod KindLemmas
 pub mod FitsLemmas

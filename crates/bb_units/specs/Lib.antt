@@ -1,5 +1,3 @@
--- the value that a slot holds
-pub mod Held
 -- the values of a unit
 pub mod Values
 -- the slots of the units of a class, and their values in a new unit

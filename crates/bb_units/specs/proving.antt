@@ -3,3 +3,5 @@
 pub mod Codes
 -- the live units in a slab, and their keys in a list by number
 pub mod Numbered
+-- what the layout keeps for each class
+pub mod Blocks

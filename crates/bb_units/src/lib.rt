@@ -6,11 +6,10 @@
 //! - Cases: `units`, `values`, and `documents` (initial units).
 #![tactic(auto)]
 
+mod block;
 mod fault;
-mod held;
 mod layout;
 mod numbered;
-mod shared_value;
 mod unit;
 mod units;
 mod values;

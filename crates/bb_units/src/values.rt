@@ -1,70 +1,95 @@
 //! The values of a unit. `units.rt` reads and sets them; `layout.rt` builds those of a new unit.
 
-ghost use Rattle.std.specs.Prelude.{◌≡◌, [], ◌∷◌, ◌++◌, IfOk, IsSome, nat_eq, option_map};
-ghost use Rattle.std.specs.Map.{lookup, set_value};
+ghost use Rattle.std.specs.Prelude.{◌≡◌, IfOk, option_map, slice_get, slice_set};
+ghost use Rattle.std.specs.Map.{values_of};
 ghost use Rattle.bb_units.specs.Values.{place_of, value_at, with_value};
 
-use crate::held::Held;
+use crate::block::Block;
+use bb_basis::Memory;
 use bb_schema::{SlotId, Value};
-use std::alloc::{AllocError, Global};
+use std::alloc::Global;
 use std::marker::Model;
 use std::mem;
 
 /// The values of a unit, each under the number of its slot.
 #[derive(Drop)]
 pub(crate) struct Values {
-    entries: Vec<(SlotId, Held)>,
+    // The slots, shared by all units of the class.
+    block: Block,
+    // The value of each slot, in the order of the block. A slot that was given none has its default, so that room for
+    // any value is there before it is set.
+    values: Vec<Value>,
 }
 
 impl Model for Values {
     ghost use Rattle.std.specs.Prelude.{List, ℕ};
     ghost use Rattle.bb_schema_classes.specs.declared.value.Value.{Value as SlotValue};
+    ghost use Rattle.bb_units.specs.Values.{in_slots};
 
     ghost Value = { List (ℕ × SlotValue) };
 
-    ghost view = { λ v. v.entries.items };
+    ghost view = { λ v. in_slots v.block v.values.items };
 }
 
-// The index of a slot among values.
-fn place(entries: &[(SlotId, Held)], slot: SlotId) -> Option<usize>
+// The index of a slot in a block.
+fn place(entries: &[(SlotId, Value)], slot: SlotId) -> Option<usize>
     ensures { result ≡ place_of slot entries.now }
 {
     entries.iter().position(|entry| entry.0 == slot)
 }
 
-impl Values {
-    /// Creates an empty list of values, without allocating.
-    pub(crate) fn new(alloc: Global) -> Values
-        ensures { result ≡ [] }
-    {
-        Values {
-            entries: Vec::new(alloc),
-        }
+// The defaults of a block, in its order.
+fn defaults(alloc: Global, entries: &[(SlotId, Value)]) -> Result<Vec<Value>, Memory>
+    ensures { IfOk result (λ values. values.items ≡ values_of entries.now) }
+{
+    let mut values = Vec::with_capacity(alloc, entries.len())?;
+    for entry in entries {
+        values.push(entry.1.clone()?)?;
     }
+    Ok(values)
+}
 
-    /// Appends a value.
-    pub(crate) fn push(&mut self, slot: SlotId, value: Held) -> Result<(), AllocError>
-        ensures { IfOk result (λ _. self.new ≡ self.old ++ (slot, value) ∷ []) }
+// The value at an index.
+fn at(values: &[Value], place: usize) -> Option<&Value>
+    ensures { option_map (λ v. v.now) result ≡ slice_get values.now place }
+{
+    Some(values.get(place)?)
+}
+
+// Replaces the value at an index, if there is one.
+fn replace(values: &mut Vec<Value>, place: usize, value: Value)
+    ensures { values.new.items ≡ slice_set values.old.items place value }
+{
+    match values.get_mut(place) {
+        None => drop(value),
+        Some(found) => drop(mem::replace(found, value)),
+    }
+}
+
+impl Values {
+    /// Makes the values of a new unit: each slot of the block at its default.
+    pub(crate) fn of(alloc: Global, block: Block) -> Result<Values, Memory>
+        ensures { IfOk result (λ values. values ≡ block) }
     {
-        self.entries.push((slot, value))?;
-        Ok(())
+        let values = defaults(alloc, block.entries())?;
+        Ok(Values { block, values })
     }
 
     /// Returns the value of a slot, if the unit has the slot.
     pub(crate) fn get(&self, slot: SlotId) -> Option<&Value>
         ensures { option_map (λ v. v.now) result ≡ value_at self.now slot }
     {
-        let place = place(&self.entries, slot)?;
-        Some(self.entries[place].1.get())
+        let place = place(self.block.entries(), slot)?;
+        at(&self.values, place)
     }
 
     /// Sets a slot to another value, if the unit has the slot.
     pub(crate) fn set(&mut self, slot: SlotId, value: Value)
         ensures { self.new ≡ with_value self.old slot value }
     {
-        match place(&self.entries, slot) {
+        match place(self.block.entries(), slot) {
             None => drop(value),
-            Some(place) => drop(mem::replace(&mut self.entries[place].1, Held::given(value))),
+            Some(place) => replace(&mut self.values, place, value),
         }
     }
 }

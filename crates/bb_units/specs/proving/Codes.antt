@@ -45,7 +45,7 @@ unit_code =
     code_by (ℕ × List (ℕ × Value)) (coded× coded_ℕ (coded_list (coded× coded_ℕ value_code)))
     (λ x. (x.class, x.values)) (λ p. record { class = p.0; values = p.1 }) (λ _. refl)
 
-abbrev layout_code : Coded Layout
+abbrev pub layout_code : Coded Layout
 layout_code =
     code_by (List (List ℕ) × (List (Option Value) × List ℕ))
     (coded× (coded_list (coded_list coded_ℕ)) (coded× (coded_list (coded_option value_code)) (coded_list coded_ℕ)))
