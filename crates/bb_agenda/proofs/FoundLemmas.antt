@@ -5,7 +5,6 @@ use Rattle.bb_agenda.specs.declared.focusing.activation.Activation.{Activation}
 use Rattle.bb_agenda.specs.Agenda.{Agenda, number_of, has_number, is_of, is_on, pending_of, pending_for, pending_on, pending_at}
 use Rattle.bb_agenda.specs.Changes.{other_than, rebased}
 use Rattle.bb_agenda.specs.Fits.{Fits}
-use Rattle.bb_agenda.proofs.FiledLemmas.{filter_turned}
 use Rattle.bb_agenda.proofs.RisingLemmas.{found_contained}
 
 -- ---- among others
@@ -41,10 +40,6 @@ found_rebased number n base (a ∷ kept) = at (has_number n a) (found_rebased nu
 
 -- ---- on an agenda
 
--- what is pending of a source for a unit, sorted out one way or the other
-pub pending_turned : (a : Agenda) (source unit : ℕ) → filter (is_of source) (pending_on a unit) ≡ filter (is_on unit) (pending_for a source)
-pending_turned a source unit = filter_turned (is_of source) (is_on unit) (pending_of a)
-
 -- an activation that is pending is the one of its number
 pub pending_itself : (a : Agenda) → Fits a → (x : Activation) → Contains (pending_of a) x → pending_at a x.number ≡ Some x
 pending_itself a fits x there = found_contained number_of (pending_of a) x fits.rising there
@@ -61,6 +56,10 @@ contains_kept p (y ∷ ys) x there = at (p y) there (contains_kept p ys x)
     at true (suc k, lt, is) further = later (further (k, omega (arith, lt), is))
     at false there further = later (further there)
 
--- an activation that is pending of a source, or for a unit, is the one of its number
-pub kept_itself : (a : Agenda) → Fits a → (p : Activation → Bool) (x : Activation) → Contains (filter p (pending_of a)) x → pending_at a x.number ≡ Some x
-kept_itself a fits p x there = pending_itself a fits x (contains_kept p (pending_of a) x there)
+-- an activation that is pending of a source is the one of its number
+pub for_itself : (a : Agenda) → Fits a → (source : ℕ) (x : Activation) → Contains (pending_for a source) x → pending_at a x.number ≡ Some x
+for_itself a fits source x there = pending_itself a fits x (contains_kept (is_of source) (pending_of a) x there)
+
+-- so is one that is pending of a source for a unit
+pub on_itself : (a : Agenda) → Fits a → (source unit : ℕ) (x : Activation) → Contains (pending_on a source unit) x → pending_at a x.number ≡ Some x
+on_itself a fits source unit x there = for_itself a fits source x (contains_kept (is_on unit) (pending_for a source) x there)

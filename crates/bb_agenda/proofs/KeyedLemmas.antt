@@ -1,7 +1,7 @@
 -- Activations that are kept under their numbers, and their list.
 use Rattle.std.proofs.Common.{◌≡◌, ℕ, ℤ, ◌<◌, ◌==◌, Bool, true, false, cond, not, List, [], ◌∷◌, ◌++◌, map, filter, find, Some, None, refl, sym, ap, subst, ◌∙◌, arith, eqb-true, eq-eqb, ne_eqb}
 use Rattle.std.specs.List.{AllByRecursion, list_any}
-use Rattle.std.specs.Map.{lookup, values_of, remove_entry, set_value}
+use Rattle.std.specs.Map.{lookup, keys_of, values_of, remove_entry, set_value}
 use Rattle.std.specs.Ordering.{is_eq, nat_cmp}
 use Rattle.std.specs.declared.cmp.Ordering.TheVariants.{Less, Equal, Greater}
 use Rattle.std.specs.BTreeMap.{is_at, insert_entry}
@@ -38,6 +38,11 @@ at_number n m = by (m == n) refl
 pub found : (n : ℕ) (es : Entries) → AreKeyed es → lookup (is_at (nat_cmp n)) es ≡ find (has_number n) (values_of es)
 found n [] keyed = refl
 found n (e ∷ es) keyed = ap (λ b. cond b (Some e.1) (lookup (is_at (nat_cmp n)) es)) (at_number n e.0 ∙ ap (λ m. m == n) keyed.0) ∙ ap (cond (has_number n e.1) (Some e.1)) (found n es keyed.1)
+
+-- the keys are the numbers
+pub keys_are : (es : Entries) → AreKeyed es → keys_of es ≡ map number_of (values_of es)
+keys_are [] keyed = refl
+keys_are (e ∷ es) keyed = ap (λ n. n ∷ keys_of es) keyed.0 ∙ ap (λ ns. e.1.number ∷ ns) (keys_are es keyed.1)
 
 -- ---- one more, above all
 

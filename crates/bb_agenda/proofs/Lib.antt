@@ -10,9 +10,9 @@ pub mod KeptLemmas
 pub mod KeyedLemmas
 pub mod Laws
 pub mod Limits
+pub mod ListedLemmas
 pub mod OrderLemmas
 pub mod RankLemmas
 pub mod RisingLemmas
-pub mod RowLemmas
 pub mod Rows
 pub mod focusing_lemmas

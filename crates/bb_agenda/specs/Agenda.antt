@@ -73,13 +73,13 @@ pending_for a source = filter (is_of source) (pending_of a)
 abbrev pub numbers_for : Agenda → ℕ → List ℕ
 numbers_for a source = map number_of (pending_for a source)
 
--- the pending activations for a unit
-abbrev pub pending_on : Agenda → ℕ → List Activation
-pending_on a unit = filter (is_on unit) (pending_of a)
+-- the pending activations of a source for a unit
+abbrev pub pending_on : Agenda → (source unit : ℕ) → List Activation
+pending_on a source unit = filter (is_on unit) (pending_for a source)
 
--- the numbers of the pending activations for a unit
-abbrev pub numbers_on : Agenda → ℕ → List ℕ
-numbers_on a unit = map number_of (pending_on a unit)
+-- the numbers of the pending activations of a source for a unit
+abbrev pub numbers_on : Agenda → (source unit : ℕ) → List ℕ
+numbers_on a source unit = map number_of (pending_on a source unit)
 
 -- the pending activation with a number
 abbrev pub pending_at : Agenda → ℕ → Option Activation

@@ -6,8 +6,10 @@ pub mod Numbers
 pub mod Ranks
 -- how the code finds pending activations
 pub mod Filed
--- ascending lists of numbers, by source and by unit
+-- ordered sets of numbers, by source, and by unit and source
 pub mod Lists
+-- where a number is in such a set
+pub mod Places
 -- the best pending activation
 pub mod Best
 -- how an agenda is encoded

@@ -14,10 +14,12 @@ mod steps;
 
 use crate::focusing::{Activation, RatedSource, Setting, Steering};
 use crate::number_set::NumberSet;
+use crate::numbers::Numbers;
 use crate::status::Status;
 use crate::waiting::Waiting;
 use bb_schema::{SharedSchema, UnitId};
 use std::alloc::Global;
+use std::collections::btree_map::Keys;
 use std::marker::Model;
 
 /// The maximum number of pending activations.
@@ -97,15 +99,15 @@ impl Agenda {
     }
 
     /// Returns the numbers of the pending activations, in ascending order.
-    pub fn pending(&self) -> &[u64]
-        ensures { result.now ≡ numbers_pending self.now }
+    pub fn pending(&self) -> Keys<'_, u64, Activation>
+        ensures { result ≡ numbers_pending self.now }
     {
         self.waiting.numbers()
     }
 
     /// Returns the numbers of a source's pending activations, in ascending order.
-    pub fn pending_for(&self, source: u16) -> &[u64]
-        ensures numbers { result.now ≡ numbers_for self.now source }
+    pub fn pending_for(&self, source: u16) -> Numbers<'_>
+        ensures numbers { result ≡ numbers_for self.now source }
         // Each activation is pending under its number.
         ensures itself { (a : Activation) → Contains (pending_for self.now source) a
             → pending_at self.now a.number ≡ Some a }
@@ -113,14 +115,14 @@ impl Agenda {
         self.waiting.of_source(source)
     }
 
-    /// Returns the numbers of the pending activations for a unit, in ascending order.
-    pub fn pending_on(&self, unit: UnitId) -> &[u64]
-        ensures numbers { result.now ≡ numbers_on self.now unit }
+    /// Returns the numbers of a source's pending activations for a unit, in ascending order.
+    pub fn pending_on(&self, source: u16, unit: UnitId) -> Numbers<'_>
+        ensures numbers { result ≡ numbers_on self.now source unit }
         // Each activation is pending under its number.
-        ensures itself { (a : Activation) → Contains (pending_on self.now unit) a
+        ensures itself { (a : Activation) → Contains (pending_on self.now source unit) a
             → pending_at self.now a.number ≡ Some a }
     {
-        self.waiting.on_unit(unit)
+        self.waiting.on_unit(source, unit)
     }
 
     /// Returns what became of the activation with a number, or `None` if the number was not given.

@@ -17,9 +17,9 @@ pub mod focusing;
 mod history;
 mod lists;
 mod number_set;
+mod numbers;
 mod order;
 mod rank;
-mod row;
 mod status;
 mod waiting;
 
@@ -28,4 +28,5 @@ pub use choice::chosen_is_best;
 pub use fault::AddFault;
 pub use focusing::{Activation, Focus, RatedSource};
 pub use history::what_is_over_stays_over;
+pub use numbers::Numbers;
 pub use status::Status;

@@ -1,151 +1,98 @@
-//! The numbers of pending activations: a list for each source, and a list for each unit. waiting.rt keeps them.
+//! The numbers of pending activations in order, by source, and by unit and source. waiting.rt keeps them.
 
-ghost use Rattle.std.specs.Prelude.{◌≡◌, ℕ, [], OnOk, OnErr, IsSome, if◌then◌else◌, ◌==◌};
-ghost use Rattle.std.specs.Ordering.{nat_cmp};
-ghost use Rattle.std.specs.BTreeMap.{get};
-ghost use Rattle.bb_agenda.specs.proving.Lists.{Rising, listed, one_more, one_less, without_last};
-ghost use Rattle.bb_agenda.specs.proving.Lists.{HasMore, HasLess, HasNoEmpty, AreSame, Rise};
+ghost use Rattle.std.specs.Prelude.{◌≡◌, [], OnOk, OnErr};
+ghost use Rattle.std.specs.BTreeSet.{IsOrdered};
+ghost use Rattle.bb_agenda.specs.proving.Lists.{place_cmp, numbers_under, at_source, at_unit, HasMore, HasLess, IsBack};
 
 use crate::focusing::Activation;
-use crate::row::Row;
+use crate::numbers::{Numbers, Place};
 use bb_basis::Memory;
 use bb_schema::UnitId;
 use std::alloc::{AllocError, Global};
-use std::collections::BTreeMap;
+use std::collections::BTreeSet;
 
-/// The numbers of activations, ascending in every list.
+/// The numbers of activations, once by source and once by unit and source.
 #[derive(Drop)]
 pub(crate) struct Lists {
-    // For each source that ever had one.
-    pub(crate) by_source: BTreeMap<u64, Row>,
-    // For each unit that has one.
-    pub(crate) by_unit: BTreeMap<u64, Row>,
+    // Each under its source; the unit is 0.
+    pub(crate) by_source: BTreeSet<Place>,
+    // Each under its unit and its source.
+    pub(crate) by_unit: BTreeSet<Place>,
 }
 
-// The list of a key.
-fn list_of(lists: &BTreeMap<u64, Row>, key: u64) -> &[u64]
-    ensures { result.now ≡ listed lists.now key }
+// Where an activation is in the set by source.
+fn at_source(activation: &Activation) -> Place
+    ensures { result ≡ at_source activation.now }
 {
-    match lists.get(&key) {
-        None => &[],
-        Some(list) => list.as_slice(),
-    }
+    ((0, u32::from(activation.source)), activation.number)
 }
 
-// Appends a number to the list of a key. An error changes nothing.
-fn add_to(
-    alloc: Global,
-    lists: &mut BTreeMap<u64, Row>,
-    key: u64,
-    number: u64,
-) -> Result<(), Memory>
-    ensures ok { OnOk result ((k : ℕ) → listed lists.new k ≡ one_more lists.old key number k) }
-    ensures err { OnErr result ((k : ℕ) → listed lists.new k ≡ listed lists.old k) }
+// Where an activation is in the set by unit and source.
+fn at_unit(activation: &Activation) -> Place
+    ensures { result ≡ at_unit activation.now }
 {
-    if lists.contains_key(&key) {
-        return push_at(lists, key, number);
-    }
-    let mut list = Row::new(alloc);
-    list.push(number)?;
-    lists.insert(key, list)?;
-    Ok(())
+    (
+        (activation.unit, u32::from(activation.source)),
+        activation.number,
+    )
 }
 
-// Appends a number to the list of a key that has a list. An error changes nothing.
-fn push_at(lists: &mut BTreeMap<u64, Row>, key: u64, number: u64) -> Result<(), Memory>
-    requires { IsSome (get nat_cmp lists.old key) }
-    ensures ok { OnOk result ((k : ℕ) → listed lists.new k ≡ one_more lists.old key number k) }
-    ensures err { OnErr result ((k : ℕ) → listed lists.new k ≡ listed lists.old k) }
+// The numbers under a unit and a source.
+fn under(set: &BTreeSet<Place>, unit: UnitId, source: u16) -> Numbers<'_>
+    ensures value { result ≡ numbers_under set.now unit source }
+    ensures ordered { IsOrdered place_cmp set.now }
 {
-    match lists.get_mut(&key) {
-        None => unreachable!(),
-        Some(list) => {
-            list.push(number)?;
-            Ok(())
-        }
-    }
-}
-
-// Removes the last number of a key.
-fn take_back(lists: &mut BTreeMap<u64, Row>, key: u64)
-    ensures { (k : ℕ) → listed lists.new k
-        ≡ if key == k then without_last (listed lists.old k) else listed lists.old k }
-{
-    match lists.get_mut(&key) {
-        None => (),
-        Some(list) => list.pop(),
-    }
-}
-
-// Removes a number from the list of a key, which ascends.
-fn remove_from(lists: &mut BTreeMap<u64, Row>, key: u64, number: u64)
-    requires { Rising (listed lists.old key) }
-    ensures { (k : ℕ) → listed lists.new k ≡ one_less lists.old key number k }
-{
-    match lists.get_mut(&key) {
-        None => (),
-        Some(list) => list.remove(number),
-    }
-}
-
-// Drops the list of a key if it is empty.
-fn drop_empty(lists: &mut BTreeMap<u64, Row>, key: u64)
-    ensures same { (k : ℕ) → listed lists.new k ≡ listed lists.old k }
-    ensures bare { HasNoEmpty lists.new key }
-{
-    if list_of(lists, key).is_empty() {
-        lists.remove(&key);
-    }
+    let source = u32::from(source);
+    Numbers::of(set.range(((unit, source), 0)..((unit, source + 1), 0)))
 }
 
 impl Lists {
     /// Creates lists without numbers. Allocates nothing.
     pub(crate) fn new(alloc: Global) -> Lists
-        ensures sources { result.by_source.entries ≡ [] }
-        ensures units { result.by_unit.entries ≡ [] }
+        ensures sources { result.by_source.keys ≡ [] }
+        ensures units { result.by_unit.keys ≡ [] }
     {
         Lists {
-            by_source: BTreeMap::new(alloc),
-            by_unit: BTreeMap::new(alloc),
+            by_source: BTreeSet::new(alloc),
+            by_unit: BTreeSet::new(alloc),
         }
     }
 
     /// Returns the numbers of a source.
-    pub(crate) fn of_source(&self, source: u16) -> &[u64]
-        ensures { result.now ≡ listed self.now.by_source source }
+    pub(crate) fn of_source(&self, source: u16) -> Numbers<'_>
+        ensures value { result ≡ numbers_under self.now.by_source 0 source }
+        ensures ordered { IsOrdered place_cmp self.now.by_source }
     {
-        list_of(&self.by_source, u64::from(source))
+        under(&self.by_source, 0, source)
     }
 
-    /// Returns the numbers of a unit.
-    pub(crate) fn of_unit(&self, unit: UnitId) -> &[u64]
-        ensures { result.now ≡ listed self.now.by_unit unit }
+    /// Returns the numbers of a source for a unit.
+    pub(crate) fn on_unit(&self, source: u16, unit: UnitId) -> Numbers<'_>
+        ensures value { result ≡ numbers_under self.now.by_unit unit source }
+        ensures ordered { IsOrdered place_cmp self.now.by_unit }
     {
-        list_of(&self.by_unit, unit)
+        under(&self.by_unit, unit, source)
     }
 
-    /// Appends the number of an activation to the lists of its source and its unit. An error changes no list.
-    pub(crate) fn add(&mut self, alloc: Global, activation: &Activation) -> Result<(), Memory>
+    /// Adds the number of an activation. An error adds it nowhere.
+    pub(crate) fn add(&mut self, activation: &Activation) -> Result<(), Memory>
         ensures ok { OnOk result (HasMore self.old activation.now self.new) }
-        ensures err { OnErr result (AreSame self.old self.new) }
+        ensures err { OnErr result (IsBack self.old activation.now self.new) }
     {
-        let source = u64::from(activation.source);
-        add_to(alloc, &mut self.by_source, source, activation.number)?;
-        if add_to(alloc, &mut self.by_unit, activation.unit, activation.number).is_err() {
-            take_back(&mut self.by_source, source);
+        let place = at_source(activation);
+        self.by_source.insert(place)?;
+        if self.by_unit.insert(at_unit(activation)).is_err() {
+            self.by_source.remove(&place);
             return Err(AllocError);
         }
         Ok(())
     }
 
-    /// Removes the number of an activation from the lists of its source and its unit.
+    /// Removes the number of an activation.
     pub(crate) fn remove(&mut self, activation: &Activation)
-        requires { Rise self.old activation.now }
         ensures { HasLess self.old activation.now self.new }
     {
-        let number = activation.number;
-        remove_from(&mut self.by_source, u64::from(activation.source), number);
-        remove_from(&mut self.by_unit, activation.unit, number);
-        drop_empty(&mut self.by_unit, activation.unit);
+        self.by_source.remove(&at_source(activation));
+        self.by_unit.remove(&at_unit(activation));
     }
 }

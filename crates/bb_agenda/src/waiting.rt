@@ -18,13 +18,14 @@ mod filing;
 use crate::choosing::best_of;
 use crate::focusing::{Activation, Steering};
 use crate::lists::Lists;
+use crate::numbers::Numbers;
 use crate::order::rank_out;
 use crate::rank::Rank;
-use crate::row::Row;
 use bb_basis::Memory;
 use bb_schema::UnitId;
 use filing::{rebase, rerank, store};
 use std::alloc::Global;
+use std::collections::btree_map::Keys;
 use std::collections::{BTreeMap, BTreeSet};
 use std::marker::Model;
 
@@ -32,9 +33,7 @@ use std::marker::Model;
 pub(crate) struct Waiting {
     alloc: Global,
     activations: BTreeMap<u64, Activation>,
-    // The numbers of the activations.
-    numbers: Row,
-    // The numbers of the activations of each source and of each unit.
+    // The numbers of the activations by source, and by unit and source.
     lists: Lists,
     // The ranks of the activations of each source, at its index.
     orders: Vec<BTreeSet<Rank>>,
@@ -46,7 +45,6 @@ impl Drop for Waiting {
         let Waiting {
             alloc: _,
             activations: _,
-            numbers: _,
             lists: _,
             orders: _,
         } = self;
@@ -64,7 +62,7 @@ impl Model for Waiting {
 
     ghost use Rattle.bb_agenda.specs.proving.Filed.{AreWaiting};
 
-    ghost invariant = { λ w. AreWaiting w.activations.entries w.numbers w.lists w.orders.items };
+    ghost invariant = { λ w. AreWaiting w.activations.entries w.lists w.orders.items };
 }
 
 impl Waiting {
@@ -75,7 +73,6 @@ impl Waiting {
         Waiting {
             alloc,
             activations: BTreeMap::new(alloc),
-            numbers: Row::new(alloc),
             lists: Lists::new(alloc),
             orders: Vec::new(alloc),
         }
@@ -85,31 +82,31 @@ impl Waiting {
     pub(crate) fn len(&self) -> usize
         ensures { result ≡ length self.now }
     {
-        self.numbers.as_slice().len()
+        self.activations.len()
     }
 
-    /// Returns the numbers of the activations.
-    pub(crate) fn numbers(&self) -> &[u64]
-        ensures value { result.now ≡ map number_of self.now }
+    /// Returns the numbers of the activations, ascending.
+    pub(crate) fn numbers(&self) -> Keys<'_, u64, Activation>
+        ensures value { result ≡ map number_of self.now }
         ensures rising { RisesBy number_of self.now }
     {
-        self.numbers.as_slice()
+        self.activations.keys()
     }
 
     /// Returns the numbers of the activations of a source.
-    pub(crate) fn of_source(&self, source: u16) -> &[u64]
-        ensures value { result.now ≡ map number_of (filter (is_of source) self.now) }
+    pub(crate) fn of_source(&self, source: u16) -> Numbers<'_>
+        ensures value { result ≡ map number_of (filter (is_of source) self.now) }
         ensures rising { RisesBy number_of self.now }
     {
         self.lists.of_source(source)
     }
 
-    /// Returns the numbers of the activations for a unit.
-    pub(crate) fn on_unit(&self, unit: UnitId) -> &[u64]
-        ensures value { result.now ≡ map number_of (filter (is_on unit) self.now) }
+    /// Returns the numbers of the activations of a source for a unit.
+    pub(crate) fn on_unit(&self, source: u16, unit: UnitId) -> Numbers<'_>
+        ensures value { result ≡ map number_of (filter (is_on unit) (filter (is_of source) self.now)) }
         ensures rising { RisesBy number_of self.now }
     {
-        self.lists.of_unit(unit)
+        self.lists.on_unit(source, unit)
     }
 
     /// Returns the activation with a number.
@@ -147,20 +144,14 @@ impl Waiting {
         ensures ok { OnOk result (self.new ≡ self.old ++ activation ∷ []) }
         ensures err { OnErr result (self.new ≡ self.old) }
     {
-        self.numbers.push(activation.number)?;
-        match store(
+        store(
             self.alloc,
             &mut self.activations,
             &mut self.lists,
             &mut self.orders,
             &activation,
-        ) {
-            Ok(()) => Ok(()),
-            Err(refused) => {
-                self.numbers.remove(activation.number);
-                Err(refused)
-            }
-        }
+        )?;
+        Ok(())
     }
 
     /// Removes the activation with a number.
@@ -168,7 +159,6 @@ impl Waiting {
         ensures { self.new ≡ filter (other_than number) self.old }
     {
         if let Some(activation) = self.activations.remove(&number) {
-            self.numbers.remove(number);
             self.lists.remove(&activation);
             rank_out(&mut self.orders, activation.source, Rank::of(&activation));
         }

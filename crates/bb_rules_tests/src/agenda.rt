@@ -1,7 +1,7 @@
 //! Tests of the agenda with enough memory: every call that can need it, what becomes of each activation, and an agenda
 //! compared with plain lists.
 
-use bb_agenda::{Activation, Agenda, Focus, RatedSource, Status};
+use bb_agenda::{Activation, Agenda, Focus, Numbers, RatedSource, Status};
 use bb_basis::Text;
 use bb_schema::{ClassId, Schema, SharedSchema, UnitId};
 use std::alloc::Global;
@@ -36,20 +36,42 @@ fn echo_on_things(alloc: Global) -> Result<Focus, Fail> {
     })
 }
 
+// Numbers as a list.
+fn listed(alloc: Global, numbers: Numbers<'_>) -> Result<Vec<u64>, Fail> {
+    let mut list = Vec::new(alloc);
+    for number in numbers {
+        list.push(number)?;
+    }
+    Ok(list)
+}
+
+// The numbers of the pending activations.
+fn pending(alloc: Global, agenda: &Agenda) -> Result<Vec<u64>, Fail> {
+    let mut list = Vec::new(alloc);
+    for number in agenda.pending() {
+        list.push(*number)?;
+    }
+    Ok(list)
+}
+
 #[test]
 fn agenda_after_changes(rt: HostRuntime) -> Result<(), Fail> {
-    let mut agenda = agenda(rt.alloc())?;
+    let alloc = rt.alloc();
+    let mut agenda = agenda(alloc)?;
     assert_eq!(rt; agenda.add(0, 1, 100), Ok(1));
     assert_eq!(rt; agenda.add(1, 1, 100), Ok(2));
     assert_eq!(rt; agenda.choose(0), Some(1));
     assert_eq!(rt; agenda.rerate(2, 150), Ok(()));
     assert_eq!(rt; agenda.choose(0), Some(2));
     assert_eq!(rt; agenda.choose(151), None);
-    assert_eq!(rt; agenda.pending(), [1, 2].as_slice());
-    assert_eq!(rt; agenda.pending_for(1), [2].as_slice());
+    assert_eq!(rt; pending(alloc, &agenda)?.as_slice(), [1, 2].as_slice());
+    assert_eq!(rt; listed(alloc, agenda.pending_for(1))?.as_slice(), [2].as_slice());
+    assert_eq!(rt; listed(alloc, agenda.pending_on(0, 1))?.as_slice(), [1].as_slice());
+    assert_eq!(rt; listed(alloc, agenda.pending_on(0, 2))?.as_slice(), [].as_slice());
     assert_eq!(rt; agenda.obviate(2), Ok(()));
     assert_eq!(rt; agenda.executed(1), Ok(()));
-    assert_eq!(rt; agenda.pending(), [].as_slice());
+    assert_eq!(rt; pending(alloc, &agenda)?.as_slice(), [].as_slice());
+    assert_eq!(rt; listed(alloc, agenda.pending_for(1))?.as_slice(), [].as_slice());
     assert_eq!(rt; agenda.choose(0), None);
     assert_eq!(rt; agenda.status(2), Some(Status::Obviated));
     assert_eq!(rt; agenda.status(1), Some(Status::Executed));
@@ -173,13 +195,27 @@ impl Plain {
         self.foci.retain(|focus| focus.0 != unit);
     }
 
+    // Whether numbers are those of a source's activations, or only of those for a unit, in order.
+    fn are_of(&self, numbers: Numbers<'_>, source: u16, unit: Option<UnitId>) -> bool {
+        let mut numbers = numbers;
+        for activation in &self.pending {
+            if activation.source != source || unit.is_some_and(|unit| unit != activation.unit) {
+                continue;
+            }
+            if numbers.next() != Some(activation.number) {
+                return false;
+            }
+        }
+        numbers.next().is_none()
+    }
+
     // Whether an agenda has the same activations, ratings and choice.
     fn agrees(&self, agenda: &Agenda) -> bool {
         let numbers = agenda.pending();
         if numbers.len() != self.pending.len() {
             return false;
         }
-        for (number, activation) in numbers.iter().zip(self.pending.iter()) {
+        for (number, activation) in numbers.zip(self.pending.iter()) {
             if *number != activation.number
                 || agenda.rating_of(activation) != self.rating(activation)
             {
@@ -187,6 +223,21 @@ impl Plain {
             }
         }
         agenda.choose(12) == self.choose(12)
+    }
+
+    // Whether an agenda finds the same activations by source, and by source and unit.
+    fn is_found_in(&self, agenda: &Agenda) -> bool {
+        for source in 0..2 {
+            if !self.are_of(agenda.pending_for(source), source, None) {
+                return false;
+            }
+            for unit in 0..3 {
+                if !self.are_of(agenda.pending_on(source, unit), source, Some(unit)) {
+                    return false;
+                }
+            }
+        }
+        true
     }
 }
 
@@ -240,11 +291,11 @@ fn change(alloc: Global, agenda: &mut Agenda, plain: &mut Plain, seed: u64) -> R
             }
         }
         _ => {
-            if let Ok(number) = agenda.add(source, 1, base) {
+            if let Ok(number) = agenda.add(source, unit, base) {
                 let activation = Activation {
                     number,
                     source,
-                    unit: 1,
+                    unit,
                     base,
                 };
                 plain.pending.push(activation)?;
@@ -270,7 +321,7 @@ fn agree(alloc: Global, times: u64) -> Result<bool, Fail> {
         if agenda.choose(0) != plain.choose(0) {
             return Ok(false);
         }
-        if turn % 32 == 0 && !plain.agrees(&agenda) {
+        if turn % 32 == 0 && !(plain.agrees(&agenda) && plain.is_found_in(&agenda)) {
             return Ok(false);
         }
     }

@@ -22,7 +22,7 @@ fn waiting_for(alloc: Global, agenda: &Agenda, place: u16) -> Result<Vec<Activat
 {
     let mut waiting = Vec::new(alloc);
     for number in agenda.pending_for(place) {
-        waiting.push(agenda.activation(*number))?;
+        waiting.push(agenda.activation(number))?;
     }
     Ok(waiting)
 }
@@ -37,12 +37,8 @@ fn waiting_on(
     ensures { IfOk result (λ waiting. waiting.items ≡ filter (is_on unit) (pending_for agenda.now place)) }
 {
     let mut waiting = Vec::new(alloc);
-    for number in agenda.pending_on(unit) {
-        let activation = agenda.activation(*number);
-        if activation.source != place {
-            continue;
-        }
-        waiting.push(activation)?;
+    for number in agenda.pending_on(place, unit) {
+        waiting.push(agenda.activation(number))?;
     }
     Ok(waiting)
 }

@@ -8,7 +8,7 @@ ghost use Rattle.std.specs.BTreeMap.{is_at, insert_entry};
 ghost use Rattle.bb_agenda.specs.declared.focusing.activation.Activation.{Activation as Given};
 ghost use Rattle.bb_agenda.specs.declared.rank.Rank.{Rank as Ranked};
 ghost use Rattle.bb_agenda.specs.Changes.{based_at};
-ghost use Rattle.bb_agenda.specs.proving.Lists.{HasMore, AreSame};
+ghost use Rattle.bb_agenda.specs.proving.Lists.{HasMore, IsBack};
 ghost use Rattle.bb_agenda.specs.proving.Ranks.{is_ranked, ranked_more, same_rank, rank_of, reranked};
 
 use crate::focusing::Activation;
@@ -31,14 +31,14 @@ fn file(
     ensures listed { OnOk result (HasMore lists.old activation.now lists.new) }
     ensures ranked { OnOk result ((s : ℕ) (r : Ranked) → is_ranked orders.new.items s r
         ≡ ranked_more orders.old.items activation.now.source (rank_of activation.now) s r) }
-    ensures unlisted { OnErr result (AreSame lists.old lists.new) }
+    ensures unlisted { OnErr result (IsBack lists.old activation.now lists.new) }
     ensures unranked { OnErr result ((s : ℕ) (r : Ranked) →
         (activation.now.source == s && same_rank (rank_of activation.now) r ≡ true
         → is_ranked orders.old.items s r ≡ false) → is_ranked orders.new.items s r ≡ is_ranked orders.old.items s r) }
 {
     let rank = Rank::of(activation);
     rank_in(alloc, orders, activation.source, rank)?;
-    if lists.add(alloc, activation).is_err() {
+    if lists.add(activation).is_err() {
         rank_out(orders, activation.source, rank);
         return Err(AllocError);
     }
@@ -61,7 +61,7 @@ pub(crate) fn store(
     ensures ranked { OnOk result ((s : ℕ) (r : Ranked) → is_ranked orders.new.items s r
         ≡ ranked_more orders.old.items activation.now.source (rank_of activation.now) s r) }
     ensures unkept { OnErr result (activations.new.entries ≡ activations.old.entries) }
-    ensures unlisted { OnErr result (AreSame lists.old lists.new) }
+    ensures unlisted { OnErr result (IsBack lists.old activation.now lists.new) }
     ensures unranked { OnErr result ((s : ℕ) (r : Ranked) →
         (activation.now.source == s && same_rank (rank_of activation.now) r ≡ true
         → is_ranked orders.old.items s r ≡ false) → is_ranked orders.new.items s r ≡ is_ranked orders.old.items s r) }

@@ -1,10 +1,7 @@
--- What is pending of a source, or for a unit, is found by its numbers, one after another.
-use Rattle.std.proofs.Common.{◌≡◌, ◌<◌, ℕ, ◌+◌, pos, Bool, true, false, cond, List, [], ◌∷◌, ◌++◌, length, filter, map, take, get_or, Some, sym, ap, ◌∙◌, arith}
+-- What is pending of a source is found by its numbers, one after another.
+use Rattle.std.proofs.Common.{◌≡◌, ℕ, suc, List, [], ◌∷◌, ◌++◌, map, Some, refl, sym, ap, subst, ◌∙◌, arith, append_assoc}
 use Rattle.std.specs.Prelude.{Contains, IsSome, is_some}
-use Rattle.std.proofs.Math.ListN.{get_or-map}
-use Rattle.std.proofs.lemmas.List.{append-nil, length-map, take_more}
-use Rattle.std.proofs.lemmas.List.Elements.{filter-append}
-use Rattle.std.proofs.lemmas.Option.{get_or_from_slice_get, slice_get-get_or}
+use Rattle.std.proofs.lemmas.List.{append-nil}
 use Rattle.bb_agenda.specs.declared.focusing.activation.Activation.{Activation}
 use Rattle.bb_agenda.specs.Agenda.{Agenda, number_of, pending_at}
 
@@ -12,47 +9,64 @@ use Rattle.bb_agenda.specs.Agenda.{Agenda, number_of, pending_at}
 abbrev pub EachItself : Agenda → List Activation → Type 0
 EachItself a waiting = (x : Activation) → Contains waiting x → pending_at a x.number ≡ Some x
 
+-- those that were found, and those whose numbers are left
+pub record Finds (waiting found : List Activation) (numbers : List ℕ) : Type 0 where
+  pub left : List Activation
+  pub whole : found ++ left ≡ waiting
+  pub numbered : numbers ≡ map number_of left
+
+-- the one whose number comes first
+record First (left : List Activation) (number : ℕ) (numbers : List ℕ) : Type 0 where
+  one : Activation
+  others : List Activation
+  parts : left ≡ one ∷ others
+  its_number : number ≡ one.number
+  numbered : numbers ≡ map number_of others
+
+first_of : (left : List Activation) (number : ℕ) (numbers : List ℕ) → number ∷ numbers ≡ map number_of left → First left number numbers
+first_of [] number numbers are = absurd cc
+first_of (x ∷ xs) number numbers are = record { one = x; others = xs; parts = refl; its_number = cc; numbered = cc }
+
 some_same : {X : Type 0} (x y : X) → Some x ≡ Some y → x ≡ y
 some_same x y same = let is : x ≡ y = cc in is
 
-module _ (a : Agenda) (waiting : List Activation) (i : ℕ) (numbers : List ℕ) (are : numbers ≡ map number_of waiting) (itself : EachItself a waiting) where
-  abbrev none : Activation
-  none = record { number = 0; source = 0; unit = 0; base = pos 0 }
+in_place : (found : List Activation) (x : Activation) (others : List Activation) → Contains (found ++ x ∷ others) x
+in_place [] x others = (0, omega arith, refl)
+in_place (y ∷ found) x others = later (in_place found x others)
+  where
+    later : Contains (found ++ x ∷ others) x → Contains (y ∷ found ++ x ∷ others) x
+    later (k, lt, is) = (suc k, omega (arith, lt), is)
 
-  pub waiting_length : length numbers ≡ length waiting
-  waiting_length = ap length are ∙ length-map waiting number_of
+pub none_found : (waiting : List Activation) (numbers : List ℕ) → numbers ≡ map number_of waiting → Finds waiting [] numbers
+none_found waiting numbers are = record { left = waiting; whole = refl; numbered = are }
 
-  -- the one whose number comes next
-  abbrev next : Activation
-  next = get_or waiting i none
+pub all_found : (waiting found : List Activation) (numbers : List ℕ) → Finds waiting found numbers → numbers ≡ [] → found ≡ waiting
+all_found waiting found numbers finds none = at finds.left (sym none ∙ finds.numbered) finds.whole
+  where
+    at : (left : List Activation) → [] ≡ map number_of left → found ++ left ≡ waiting → found ≡ waiting
+    at [] are whole = sym (append-nil found) ∙ whole
+    at (x ∷ xs) are whole = absurd cc
 
-  its_number : get_or numbers i 0 ≡ next.number
-  its_number = ap (λ ns. get_or ns i 0) are ∙ get_or-map number_of waiting i none
+module _ (a : Agenda) (waiting found : List Activation) (itself : EachItself a waiting) (all : List ℕ) (finds : Finds waiting found all) (number : ℕ) (numbers : List ℕ) (next : all ≡ number ∷ numbers) where
+  first : First finds.left number numbers
+  first = first_of finds.left number numbers (sym next ∙ finds.numbered)
 
-  next_found : i < length numbers → pending_at a (get_or numbers i 0) ≡ Some next
-  next_found lt =
-      let within : i < length waiting = omega (arith, lt, waiting_length) in
-      let there : Contains waiting next = (i, within, get_or_from_slice_get waiting i next next (slice_get-get_or waiting i none within)) in
-      ap (pending_at a) its_number ∙ itself next there
+  whole : found ++ first.one ∷ first.others ≡ waiting
+  whole = ap (λ left. found ++ left) (sym first.parts) ∙ finds.whole
 
-  pub next_pends : i < length numbers → IsSome (pending_at a (get_or numbers i 0))
-  next_pends lt = ap is_some (next_found lt)
+  next_found : pending_at a number ≡ Some first.one
+  next_found = ap (pending_at a) first.its_number ∙ itself first.one (subst (λ l. Contains l first.one) whole (in_place found first.one first.others))
 
-  -- the activation of that number is the one that comes next
-  pub one_more : (x : Activation) → i < length numbers → pending_at a (get_or numbers i 0) ≡ Some x → take i waiting ++ x ∷ [] ≡ take (i + 1) waiting
-  one_more x lt is =
-      let within : i < length waiting = omega (arith, lt, waiting_length) in
-      let same : x ≡ next = some_same x next (sym is ∙ next_found lt) in
-      ap (λ y. take i waiting ++ y ∷ []) same ∙ sym (take_more waiting i none within)
+  -- an activation is pending under the number that comes next
+  pub next_pends : IsSome (pending_at a number)
+  next_pends = ap is_some next_found
 
-  -- of those that a test keeps, with the one that comes next
-  filtered : (p : Activation → Bool) (x : Activation) (kept : Bool) → i < length numbers → pending_at a (get_or numbers i 0) ≡ Some x → p x ≡ kept
-      → filter p (take i waiting) ++ cond kept (x ∷ []) [] ≡ filter p (take (i + 1) waiting)
-  filtered p x kept lt is test =
-      ap (λ b. filter p (take i waiting) ++ cond b (x ∷ []) []) (sym test) ∙ sym (filter-append p (take i waiting) (x ∷ [])) ∙ ap (filter p) (one_more x lt is)
-
-  pub one_kept : (p : Activation → Bool) (x : Activation) → i < length numbers → pending_at a (get_or numbers i 0) ≡ Some x → p x ≡ true → filter p (take i waiting) ++ x ∷ [] ≡ filter p (take (i + 1) waiting)
-  one_kept p x lt is test = filtered p x true lt is test
-
-  pub one_skipped : (p : Activation → Bool) (x : Activation) → i < length numbers → pending_at a (get_or numbers i 0) ≡ Some x → p x ≡ false → filter p (take i waiting) ≡ filter p (take (i + 1) waiting)
-  one_skipped p x lt is test = sym (append-nil (filter p (take i waiting))) ∙ filtered p x false lt is test
+  -- that activation is the next one
+  pub one_more : (x : Activation) → pending_at a number ≡ Some x → Finds waiting (found ++ x ∷ []) numbers
+  one_more x is = record {
+    left = first.others;
+    whole =
+        let same : x ≡ first.one = some_same x first.one (sym is ∙ next_found) in
+        ap (λ y. (found ++ y ∷ []) ++ first.others) same ∙ append_assoc found (first.one ∷ []) first.others ∙ whole;
+    numbered = first.numbered;
+  }

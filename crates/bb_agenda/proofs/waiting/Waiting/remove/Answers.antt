@@ -1,21 +1,14 @@
-use Rattle.std.proofs.Common.{◌≡◌, ◌∙◌, List, ℕ, Some, filter, find, ap, subst, sym}
+use Rattle.std.proofs.Common.{◌≡◌, ◌∙◌, List, Some, filter, find, ap, subst, sym}
 use Rattle.std.specs.Map.{values_of}
 use Rattle.bb_agenda.specs.declared.focusing.activation.Activation.{Activation}
 use Rattle.bb_agenda.specs.Agenda.{has_number}
 use Rattle.bb_agenda.specs.Changes.{other_than}
-use Rattle.bb_agenda.specs.proving.Lists.{without}
 use Rattle.bb_agenda.specs.proving.Filed.{AreFiled, AreKeyed}
 use Rattle.bb_agenda.specs.proving.Ranks.{AreRanked, ranked_less}
-use Rattle.bb_agenda.proofs.FiledLemmas.{numbers_rise, own_rise, filed_less}
+use Rattle.bb_agenda.proofs.FiledLemmas.{filed_less}
 use Rattle.bb_agenda.proofs.KeyedLemmas.{found, values_less, keyed_less}
 use Rattle.bb_agenda.proofs.RankLemmas.{ranked_gone}
 use Rattle.bb_agenda.proofs.waiting.Waiting.remove.Goals as goal
-
-pub remove-requires-in-Some : goal.remove-requires-in-Some
-remove-requires-in-Some c = numbers_rise (values_of c.self.inside.activations.entries) c.self.inside.numbers c.self.inside.lists c.self.invariant.filed
-
-pub remove-requires-in-Some-2 : goal.remove-requires-in-Some-2
-remove-requires-in-Some-2 c = own_rise (values_of c.self.inside.activations.entries) c.self.inside.numbers c.self.inside.lists c.self.invariant.filed c.in-Some.activation
 
 pub invariant_of-self : goal.invariant_of-self
 invariant_of-self c =
@@ -27,8 +20,7 @@ invariant_of-self c =
     let values : values_of c.remove.new.self.entries ≡ filter (other_than n) (values_of es) = ap values_of c.remove.ensures.entries ∙ values_less n es c.self.invariant.keyed c.self.invariant.filed.rising in
     record {
       keyed = subst AreKeyed (sym c.remove.ensures.entries) (keyed_less n es c.self.invariant.keyed);
-      filed = subst (λ (ns : List ℕ). AreFiled (values_of c.remove.new.self.entries) ns c.remove-in-Some-2.new.self) (sym c.remove-in-Some.ensures)
-          (subst (λ (xs : List Activation). AreFiled xs (without n old.numbers) c.remove-in-Some-2.new.self) (sym values) (filed_less (values_of es) old.numbers old.lists c.self.invariant.filed n a is c.remove-in-Some-2.new.self c.remove-in-Some-2.ensures));
+      filed = subst (λ (xs : List Activation). AreFiled xs c.remove-in-Some.new.self) (sym values) (filed_less (values_of es) old.lists c.self.invariant.filed n a is c.remove-in-Some.new.self c.remove-in-Some.ensures);
       ranked = subst (λ (xs : List Activation). AreRanked xs c.rank_out.new.orders.items) (sym values)
           (ranked_gone (values_of es) old.orders.items c.self.invariant.ranked n a is c.rank_out.new.orders.items (λ s r. c.rank_out.ensures s r ∙ ap (λ k. ranked_less old.orders.items a.source k s r) c.of.ensures));
     }

@@ -42,7 +42,7 @@ invariant_of-self-2 c =
     let values : values_of c.rebase.new.activations.entries ≡ map (rebased n c.args.base) (values_of es) = ap values_of made ∙ values_rebased n c.args.base a es c.self.invariant.keyed c.self.invariant.filed.rising is in
     record {
       keyed = subst AreKeyed (sym made) (keyed_rebased n c.args.base a es c.self.invariant.keyed is);
-      filed = subst (λ (xs : List Activation). AreFiled xs old.numbers old.lists) (sym values) (filed_rebased (values_of es) old.numbers old.lists c.self.invariant.filed n c.args.base);
+      filed = subst (λ (xs : List Activation). AreFiled xs old.lists) (sym values) (filed_rebased (values_of es) old.lists c.self.invariant.filed n c.args.base);
       ranked = subst (λ (xs : List Activation). AreRanked xs c.rerank.new.orders.items) (sym values)
           (ranked_rebased (values_of es) old.orders.items c.self.invariant.ranked n a is c.args.base c.rerank.new.orders.items other
           (λ s r. c.in_ok-rerank.ensures.ok s r ∙ ap (λ z. reranked old.orders.items a z s r) (to_z-of_z w64 c.args.base c.ranges.base)));
