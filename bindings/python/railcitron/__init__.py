@@ -1,6 +1,6 @@
-"""A run of the blackboard shell that Python holds.
+"""A run of the blackboard shell Railcitron that Python holds.
 
-    with railcitron.Run(data) as run:                the run of an input, which is bytes
+    with railcitron.Run(data) as run:                the run of an input
         with run.post() as asks:                     what happened outside: posted when the block has ended,
             job = asks.new("job")                    and forgotten where it raises
             asks.set(job, "due", 12)
@@ -10,18 +10,39 @@
 
 A source with `native` acts by a function of this host, which asks:
 
-    with railcitron.Run(data, natives=["weigh"]) as run:
-        @run.native("weigh")
-        def weigh(unit, asks):
-            asks.set(unit, "grams", scale())
+    def weigh(unit, asks):
+        asks.set(unit, "grams", scale())
 
-The library is that of crates/bb_c, as a shared one: `load` finds it. A run stays on the thread that made it, and in its
-process. Where a call raises `OutOfMemory` out of a move, the run can be read and closed, and nothing else.
+    with railcitron.Run(data, natives={"weigh": weigh}) as run:
+        ...
+
+The library is that of crates/bb_c, as a shared one: `load` finds it. A run stays on the thread that opened it, and in its
+process; runs on several threads go on at once. Each call's documentation has what it raises. If a move raises
+`OutOfMemory`, the run can only be read and closed.
 """
 
-from ._asks import Asks, Interval, Label
+from ._asks import Asks, RefusedAsk
 from ._faults import Due, Fault, Full, Misuse, OutOfMemory, Refused
 from ._library import load
-from ._run import Run
+from ._run import Ending, Native, Run
+from ._values import Interval, Label, Value
 
-__all__ = ["Asks", "Due", "Fault", "Full", "Interval", "Label", "Misuse", "OutOfMemory", "Refused", "Run", "load"]
+__version__ = "0.9.0"
+
+__all__ = [
+    "Asks",
+    "Due",
+    "Ending",
+    "Fault",
+    "Full",
+    "Interval",
+    "Label",
+    "Misuse",
+    "Native",
+    "OutOfMemory",
+    "Refused",
+    "RefusedAsk",
+    "Run",
+    "Value",
+    "load",
+]

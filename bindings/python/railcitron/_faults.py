@@ -1,33 +1,49 @@
 """What calls raise."""
 
+from __future__ import annotations
+
 
 class Fault(Exception):
-    """What any call of this package raises, but for the wrong types and values of Python's own."""
+    """What any call of this package raises, except for `KeyError` and for the wrong types and values of Python's own."""
 
 
 class Refused(Fault):
-    """An input, a name or a value is refused. `line` is the line that tells it, as the program writes it."""
+    """An input is refused, or what an ask names or holds.
 
-    def __init__(self, line):
-        super().__init__(line)
+    `line` is the line by which the program refuses the input. It is None for an ask, and for an input for which no call of
+    the library finds the line.
+    """
+
+    def __init__(self, line: str | None, why: str | None = None) -> None:
+        super().__init__(line, why)
         self.line = line
+        self.why = why
+
+    def __str__(self) -> str:
+        return self.why or self.line or "refused"
 
 
 class Full(Fault):
-    """The run is over, for want of room for one more unit or activation. It can be read, finished and closed."""
+    """The run is over: there is no space for another unit or activation. It can be read, finished and closed."""
 
 
 class Due(Fault):
-    """A native is due for which no function was given: on `unit`, and of this `name`. `Run.answer` has the run go on."""
+    """The native `name` is due on `unit`. Until `Run.answer` answers for it, or a turn calls its function, the run can
+    neither go on nor be posted to or finished."""
 
-    def __init__(self, unit, name):
-        super().__init__(f"the native {name} is due on unit {unit}, and no function was given for it")
-        self.unit, self.name = unit, name
+    def __init__(self, unit: int, name: str) -> None:
+        super().__init__(unit, name)
+        self.unit = unit
+        self.name = name
+
+    def __str__(self) -> str:
+        return f"the native {self.name} is due on unit {self.unit}, and nothing has answered for it yet"
 
 
 class OutOfMemory(Fault, MemoryError):
-    """Memory ran out. Out of a move: the run can be read and closed, and nothing else."""
+    """Memory ran out. If a move raises it, the run can only be read and closed. Any other call did nothing."""
 
 
 class Misuse(Fault):
-    """There is no such run: it was finished or closed, or it is another thread's or another process's."""
+    """There is no such run: it was finished or closed, or it belongs to another thread or process. Or the call does not fit
+    the state of the run: no native is due, or asks are gathered."""

@@ -1,10 +1,15 @@
 """The library and its calls, as crates/bb_c/include/bb.h declares them."""
 
+from __future__ import annotations
+
 import ctypes
 import functools
 import os
+import re
+from collections.abc import Collection
 from ctypes import POINTER, c_char_p, c_int64, c_size_t, c_uint8, c_uint32, c_uint64
 from pathlib import Path
+from typing import Any
 
 VERSION = 2
 RUN = 0
@@ -15,6 +20,9 @@ NONE = 1
 REFUSED, GOING, FULL, MEMORY, ROOM, DUE, MISUSE = 2, 3, 4, 5, 6, 8, 9
 LIMIT = GOING
 
+# The environment's variable that names the library.
+VARIABLE = "RAILCITRON_LIBRARY"
+
 
 class Handle(ctypes.Structure):
     """`bb_run`: it begins as none."""
@@ -23,15 +31,15 @@ class Handle(ctypes.Structure):
 
 
 _RUN = POINTER(Handle)
-_BYTES = [c_char_p, c_size_t]
-_SLOT = [_RUN, c_uint64, *_BYTES]
+_BYTES: list[Any] = [c_char_p, c_size_t]
+_SLOT: list[Any] = [_RUN, c_uint64, *_BYTES]
 _INT = POINTER(c_int64)
 _UNIT = POINTER(c_uint64)
-_TEXT = [*_BYTES, POINTER(c_size_t)]
-_UNITS = [_UNIT, c_size_t, POINTER(c_size_t)]
+_TEXT: list[Any] = [*_BYTES, POINTER(c_size_t)]
+_UNITS: list[Any] = [_UNIT, c_size_t, POINTER(c_size_t)]
 
 # What each call returns, and what it takes. A pointer to Python's bytes is never null.
-CALLS = {
+CALLS: dict[str, tuple[Any, list[Any]]] = {
     "bb_version": (c_uint32, []),
     "bb_serve": (c_uint8, [*_BYTES, c_uint8, c_uint32, c_int64, *_BYTES, POINTER(c_size_t)]),
     "bb_open": (c_uint8, [_RUN, *_BYTES, *_BYTES, c_int64]),
@@ -72,29 +80,75 @@ CALLS = {
 }
 
 
-def _with_types(library, path):
-    for name, (returned, taken) in CALLS.items():
-        call = getattr(library, name)
-        call.restype, call.argtypes = returned, taken
-    if library.bb_version() != VERSION:
-        raise OSError(f"{path} is of another version than this package")
-    return library
+def load(path: str | os.PathLike[str] | None = None) -> ctypes.CDLL:
+    """Returns the library at a path; or at that of RAILCITRON_LIBRARY; or `libbb.so` beside this package.
+
+    Raises `OSError` if there is none (`FileNotFoundError`), if it can't be loaded, and if it is of another version than
+    this package.
+    """
+    named = path or os.environ.get(VARIABLE)
+    file = os.path.abspath(named or Path(__file__).with_name("libbb.so"))
+    if not os.path.exists(file):
+        raise FileNotFoundError(_lack(file, named is not None))
+    return _load(file)
+
+
+def _lack(file: str, is_named: bool) -> str:
+    """What a host can do without a library."""
+    if is_named:
+        return f"there is no library {file}: {VARIABLE}, or the argument of `load`, has to name a libbb.so"
+    return (
+        f"there is no library {file}: this package was installed from its source, or is a checkout, and neither has the"
+        f" library. Install the wheel of a release, or have {VARIABLE} name a libbb.so, which the package's README tells"
+        " how to make"
+    )
 
 
 @functools.cache
-def load(path=None):
-    """The library at a path; or at that of RAILCITRON_LIBRARY; or `libbb.so` beside this package. `OSError` where there
-    is none, or one of another version."""
-    path = path or os.environ.get("RAILCITRON_LIBRARY") or Path(__file__).with_name("libbb.so")
-    return _with_types(ctypes.CDLL(os.path.abspath(path)), path)
+def _load(file: str) -> ctypes.CDLL:
+    try:
+        library = ctypes.CDLL(file)
+    except OSError as fault:
+        raise OSError(f"{file} can't be loaded: {fault}. {VARIABLE}, or the argument of `load`, names another") from None
+    return with_types(library, file)
 
 
-def why_refused(library, data, floor):
-    """The line by which the library refuses an input."""
+def with_types(library: ctypes.CDLL, file: str) -> ctypes.CDLL:
+    """The library with the types of its calls, if it is of this package's version."""
+    _type(library, "bb_version", file, "calls of another kind")
+    version = library.bb_version()
+    if version != VERSION:
+        raise OSError(f"{file} has version {version} of the calls, and this package needs version {VERSION}")
+    for name in CALLS:
+        _type(library, name, file, f"version {version} of the calls, as this package")
+    return library
+
+
+def _type(library: ctypes.CDLL, name: str, file: str, version: str) -> None:
+    try:
+        call = getattr(library, name)
+    except AttributeError:
+        raise OSError(f"{file} has {version}, but not {name}: it is older than this package, or no such library") from None
+    call.restype, call.argtypes = CALLS[name]
+
+
+def why_refused(library: ctypes.CDLL, data: bytes, floor: int, natives: Collection[str]) -> tuple[str | None, str | None]:
+    """The line by which the library refuses an input, if a call tells it, and what is to be said if none does.
+
+    The call that tells it has no natives. So it refuses a source of a native that the host has, and what follows such a
+    source is not found.
+    """
     room = 1 << 12
     while True:
         output, written = ctypes.create_string_buffer(room), c_size_t()
         status = library.bb_serve(data, len(data), RUN, 0, floor, output, room, ctypes.byref(written))
         if status != ROOM:
-            return output[: written.value].decode(errors="replace").strip() or "refused"
+            break
         room *= 2
+    line = ctypes.string_at(output, written.value).decode(errors="replace").strip()
+    if status != REFUSED or not line:
+        return None, "the input is refused, and the call that tells why ran out of memory, or finds no fault"
+    own = re.fullmatch(r"refused rule (\w+) 8", line)
+    if own and own[1] in natives:
+        return None, f"the input is refused at the source {own[1]} or after it: the call that tells why has no natives, so it stops there"
+    return line, None

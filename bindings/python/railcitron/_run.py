@@ -1,289 +1,376 @@
 """A run that Python holds."""
 
-import codecs
+from __future__ import annotations
+
 import contextlib
 import ctypes
 import os
-import threading
-import warnings
+import re
+from collections.abc import Callable, Iterable, Iterator, Mapping
+from contextlib import AbstractContextManager
+from typing import Any, Literal, TypeVar
 
 from . import _library as calls
-from ._asks import Asks, Interval, _bytes, _int, _unit, _within
-from ._faults import Due, Full, Misuse, OutOfMemory, Refused
+from ._asks import Asks, RefusedAsk, as_bytes, as_int, as_unit, within
+from ._faults import Due, Fault, Full, Misuse, OutOfMemory, Refused
+from ._held import Held
+from ._schema import Slot
+from ._values import Interval, Label, Value
 
-# The bytes that one reading takes at most.
-_ROOM = 1 << 16
+Native = Callable[[int, Asks], object]
+Ending = Literal["quiescence", "limit", "full"]
+Given = TypeVar("Given", bound=Native)
 
 # The bytes of a name, at most.
 _NAME = 32
 
+_ENDINGS: dict[int, Ending] = {calls.DONE: "quiescence", calls.LIMIT: "limit", calls.FULL: "full"}
+_STATES = {calls.RESTING: "at rest", calls.GOING: "going", calls.FULL: "full", calls.MEMORY: "out of memory", calls.DUE: "due"}
+_NATIVE = re.compile(r"[a-z][a-z0-9_]*")
+_REFUSED = re.compile(r"^refused ask ([0-9]+) ([0-9]+)$", re.M)
 
-class Run:
-    """The run of an input. `with` closes it; one that is not closed leaks.
 
-    A source with `native` has one of the names `natives`: `native` gives the function for one. No activation rated below
-    `floor` is chosen. `library` is what `load` gives, or a path, or None for the usual one.
+def _input(data: object) -> bytes:
+    """The bytes of an input."""
+    if isinstance(data, str):
+        return data.encode()
+    if isinstance(data, (bytes, bytearray, memoryview)):
+        return bytes(data)
+    raise TypeError(f"an input is a str, or bytes, and not a {type(data).__name__}")
+
+
+def _natives(natives: Iterable[str] | Mapping[str, Native | None]) -> dict[str, Native | None]:
+    """The natives by their names, each with its function, if there is one."""
+    if isinstance(natives, (str, bytes)):
+        raise TypeError("natives are a list of names, or a dict of functions by names, and not one text")
+    named: dict[str, Native | None] = {**natives} if isinstance(natives, Mapping) else {it: None for it in natives}
+    for name, function in named.items():
+        if not isinstance(name, str):
+            raise TypeError(f"the name of a native is a str, and not a {type(name).__name__}")
+        if not _NATIVE.fullmatch(name):
+            raise ValueError(f"{name!r} is the name of no source, so of no native")
+        if function is not None and not callable(function):
+            raise TypeError(f"the native {name} is a function, and not a {type(function).__name__}")
+    return named
+
+
+class Run(Held):
+    """The run of an input.
+
+    `data` is the input, as text or as bytes. A source with `native` has one of the names `natives`, which may give their
+    functions: `natives={"weigh": weigh}`, or `natives=["weigh"]` and later `run.native("weigh")`. No activation rated
+    below `floor` is chosen. `library` is what `load` returns, or a path; None is the usual one.
+
+    `with` closes the run. It stays on its thread: a thread that ends without closing it leaks it. `for unit in run` gives
+    the numbers of all units, ascending, and `unit in run` says whether a unit is live.
+
+    Raises `Refused` if the input is refused, `OutOfMemory`, what `load` raises, and `TypeError`, `ValueError` or
+    `OverflowError` for arguments of other kinds.
     """
 
-    def __init__(self, data, *, natives=(), floor=0, library=None):
-        is_path = library is None or isinstance(library, (str, os.PathLike))
-        self._library = calls.load(library) if is_path else library
-        self._home = threading.get_ident(), os.getpid()
-        self._handle = calls.Handle()
-        self._decoder = codecs.getincrementaldecoder("utf-8")()
-        self._room = ctypes.create_string_buffer(_ROOM)
-        self._asks = None
-        self._ending = None
-        self._natives = dict.fromkeys(natives)
-        data = bytes(memoryview(data))
-        stands = self._call("bb_open", data, len(data), *_bytes("\n".join(self._natives)), _int(floor))
+    def __init__(
+        self,
+        data: str | bytes | bytearray | memoryview,
+        *,
+        natives: Iterable[str] | Mapping[str, Native | None] = (),
+        floor: int = 0,
+        library: str | os.PathLike[str] | ctypes.CDLL | None = None,
+    ) -> None:
+        given = _input(data)
+        self._natives = _natives(natives)
+        self._asks: Asks | None = None
+        self._ending: Ending | None = None
+        self._stands = calls.MISUSE
+        super().__init__(given, library)
+        stands = self._call("bb_open", given, len(given), *as_bytes("\n".join(self._natives)), as_int(floor))
         if stands == calls.REFUSED:
-            raise Refused(calls.why_refused(self._library, data, floor))
+            raise Refused(*calls.why_refused(self._library, given, floor, self._natives))
         if stands == calls.MEMORY:
             raise OutOfMemory("there is no memory for the run")
+        self._stands = stands
 
     # ---- moves
 
-    def native(self, name):
-        """For a decorator: gives the function by which the sources of a name act. It takes the unit and asks, which the
-        run applies once it has returned. What it raises comes out of the move, and the native is due still."""
-        if name not in self._natives:
-            raise Misuse(f"{name} is none of the natives of this run")
+    def native(self, name: str) -> Callable[[Given], Given]:
+        """Decorates the function that acts for the sources of a name. It receives the unit and asks, which are applied when
+        it returns. What it raises leaves the move, and the native is still due.
 
-        def given(function):
+        Raises `Misuse` if the run has no native of that name.
+        """
+        if name not in self._natives:
+            raise Misuse(f"the run has no native {name!r}")
+
+        def given(function: Given) -> Given:
             self._natives[name] = function
             return function
 
         return given
 
-    def turn(self):
-        """Makes a cycle, or tells quiescence where nothing can be chosen. Returns whether the run goes on. Raises `Due`
-        where a native is due for which no function was given."""
-        return self._moved(self._answered(self._call("bb_turn")))
+    def turn(self) -> bool:
+        """Makes a cycle, or tells quiescence if nothing can be chosen. Returns whether the run goes on.
 
-    def advance(self, cycles):
-        """Makes at most so many cycles more, and tells quiescence after them where nothing can be chosen then. Returns
-        whether the run goes on. Raises `Due` as `turn` does."""
-        until = self.made + _within(cycles, 0, 1 << 32)
-        stands = self._call("bb_advance", cycles)
+        Raises `Due` if a native is due that has no function, what a native's function raises, `Full`, `OutOfMemory`, and
+        `Misuse` if there is no run, it was finished, or asks are gathered.
+        """
+        return self._goes_on(self._answered(self._move("bb_turn")))
+
+    def advance(self, cycles: int) -> bool:
+        """Makes at most so many cycles, and then tells quiescence if nothing can be chosen. Returns whether the run goes on.
+
+        Raises what `turn` raises, and `OverflowError` if `cycles` is negative or not below 2^32.
+        """
+        until = self.made + within(cycles, 0, 1 << 32)
+        stands = self._move("bb_advance", cycles)
         while stands == calls.DUE:
             stands = self._answered(stands)
             if stands == calls.GOING:
-                stands = self._call("bb_advance", until - self.made)
-        return self._moved(stands)
+                stands = self._move("bb_advance", until - self.made)
+        return self._goes_on(stands)
 
-    def post(self):
-        """What happened outside: gathers asks in the block of a `with`, and posts them at its end. Where the block raises,
-        they are forgotten."""
-        return self._gathers("bb_post")
+    def post(self) -> AbstractContextManager[Asks]:
+        """What happened outside: a block of `with` that gathers asks, and posts them at its end. If the block raises, they
+        are forgotten. Afterwards `refused` of the asks has those that could not be applied.
 
-    def answer(self):
-        """What the native asks that is due: gathers asks in the block of a `with`, perhaps none, and answers by them at its
-        end. Where the block raises, they are forgotten, and the native is due still."""
+        Before anything is gathered it raises `Due` if a native is due, `Full` or `OutOfMemory` if the run is over for that
+        reason, and `Misuse` if there is no run, it was finished, or other asks are gathered. The block's end raises
+        `Full` or `OutOfMemory` if the post ends the run.
+        """
+        self._want_post()
+        return self._gathers("bb_post", self._want_post)
+
+    def answer(self) -> AbstractContextManager[Asks]:
+        """What the native that is due asks: a block of `with` that gathers asks, perhaps none, and answers with them at its
+        end. If the block raises, they are forgotten, and the native is still due.
+
+        Raises `Misuse` if no native is due, before anything is gathered, and otherwise what `post` raises.
+        """
+        self._want_due()
+        return self._gathers("bb_answer", self._want_due)
+
+    def _want_post(self) -> None:
+        """A post will be applied."""
+        if due := self.due:
+            raise Due(*due)
+        if self._stands in (calls.FULL, calls.MEMORY):
+            self._goes_on(self._stands)
+        if self._ending is not None or not self._handle.is_open:
+            raise Misuse("there is no run, or it was finished")
+
+    def _want_due(self) -> None:
+        """An answer will be applied."""
         if self.due is None:
             raise Misuse("no native is due")
-        return self._gathers("bb_answer")
 
     @contextlib.contextmanager
-    def _gathers(self, move):
-        if self._asks is not None:
-            raise Misuse("other asks are gathered")
-        self._asks = asks = Asks(self)
+    def _gathers(self, move: str, want: Callable[[], None]) -> Iterator[Asks]:
+        self._want_no_asks()
+        want()
+        asks = Asks(self)
+        self._call("bb_discard")
+        self._asks = asks
         try:
-            self._call("bb_discard")
             yield asks
+            want()
         except BaseException:
+            self._asks = None
             self._call("bb_discard")
             raise
-        else:
-            self._moved(self._call(move))
         finally:
             asks._is_open, self._asks = False, None
+        self._hear()
+        self._stands = self._call(move)
+        asks.refused = [RefusedAsk(int(number), int(reason)) for number, reason in _REFUSED.findall(self._hear())]
+        self._goes_on(self._stands)
 
-    def _answered(self, stands):
+    def _want_no_asks(self) -> None:
+        if self._asks is not None:
+            raise Misuse("asks are gathered: no other move is made before the end of their block")
+
+    def _move(self, name: str, *passed: Any) -> int:
+        self._want_no_asks()
+        self._stands = self._call(name, *passed)
+        return self._stands
+
+    def _answered(self, stands: int) -> int:
         """How the run stands once the native that may be due was answered for."""
         if stands != calls.DUE:
             return stands
-        unit, name = self.due
-        if self._natives.get(name) is None:
-            raise Due(unit, name)
+        if (due := self.due) is None:
+            raise Misuse("no native is due")
+        function = self._natives.get(due[1])
+        if function is None:
+            raise Due(*due)
         with self.answer() as asks:
-            self._natives[name](unit, asks)
+            function(due[0], asks)
         return calls.GOING
 
-    def finish(self):
-        """Ends the run, and returns what of its trace was not read. Then `ending` is how it ended: "quiescence", "limit"
-        or "full". Where a native is due the run can't be ended, and `Due` is raised."""
-        status = self._call("bb_finish")
-        if status == calls.DUE:
-            raise Due(*self.due)
-        if status == calls.MEMORY:
-            raise OutOfMemory("memory ran out")
-        if status == calls.MISUSE:
+    def _goes_on(self, stands: int) -> bool:
+        """Whether a run that stands so goes on."""
+        if stands == calls.FULL:
+            raise Full("the run is over: there is no space for another unit or activation")
+        if stands == calls.MEMORY:
+            raise OutOfMemory("memory ran out in a move: the run can only be read and closed")
+        if stands == calls.MISUSE:
             raise Misuse("there is no run, or it was finished")
-        self._ending = {calls.DONE: "quiescence", calls.LIMIT: "limit", calls.FULL: "full"}[status]
+        return stands in (calls.GOING, calls.DUE)
+
+    def finish(self) -> str:
+        """Ends the run, and returns what of its trace was not read. `ending` is then how it ended. The blackboard is gone:
+        what is wanted of it has to be looked up before.
+
+        Raises `Due` if a native is due, and the run is unchanged; `OutOfMemory`; and `Misuse` if there is no run, it was
+        finished, or asks are gathered.
+        """
+        self._want_no_asks()
+        status = self._call("bb_finish")
+        if status == calls.DUE and (due := self.due):
+            raise Due(*due)
+        if status not in _ENDINGS:
+            self._goes_on(status)
+            raise Fault(f"bb_finish returned {status}")
+        self._ending, self._stands = _ENDINGS[status], calls.MISUSE
         return self.read()
 
     # ---- looks
 
-    def read(self):
-        """What the run told since it was read last."""
-        return "".join(self._decoder.decode(piece) for piece in self._pieces())
+    def read(self) -> str:
+        """Returns what the run told since it was read last. Raises `Misuse` if there is no run."""
+        return self._take_told()
 
-    def class_of(self, unit):
-        """The name of the class of a unit, or None where there is no such unit."""
-        return self._text("bb_class", _unit(unit))
+    def lines(self) -> Iterator[str]:
+        """Iterates over the lines that the run told since it was read last, without their ends. They are read at once.
 
-    def get(self, unit, slot):
-        """The value in an ordinary slot of a unit: an int, a bool, a str, an `Interval`, or the name of a label. `KeyError`
-        where there is no such unit, or its class has no such slot."""
-        at = (_unit(unit), *_bytes(slot))
+        Texts in a trace may have characters at which `str.splitlines` splits, so this does not. Raises what `read` raises.
+        """
+        told = self.read()
+        return iter(told.removesuffix("\n").split("\n") if told else ())
+
+    def class_of(self, unit: int) -> str | None:
+        """Returns the name of the class of a unit, or None if there is no such unit.
+
+        Raises `OverflowError` for a number that no unit can have, and `Misuse` if there is no run.
+        """
+        return self._text("bb_class", as_unit(unit))
+
+    def get(self, unit: int, slot: str) -> Value:
+        """Returns the value of an ordinary slot of a unit.
+
+        Raises `KeyError` if there is no such unit, or its class has no such slot; and what `class_of` raises.
+        """
+        held = self._slot_of(unit, slot)
+        at = (as_unit(unit), *as_bytes(slot))
         low, high, truth = ctypes.c_int64(), ctypes.c_int64(), ctypes.create_string_buffer(1)
-        if self._looked("bb_int", *at, ctypes.byref(low)):
+        if held.kind == "int" and self._looked("bb_int", *at, ctypes.byref(low)):
             return low.value
-        if self._looked("bb_bool", *at, truth):
+        if held.kind == "bool" and self._looked("bb_bool", *at, truth):
             return truth.raw != b"\0"
-        if self._looked("bb_interval", *at, ctypes.byref(low), ctypes.byref(high)):
+        if held.kind == "interval" and self._looked("bb_interval", *at, ctypes.byref(low), ctypes.byref(high)):
             return Interval(low.value, high.value)
-        for name in ("bb_text", "bb_label"):
-            if (text := self._text(name, *at)) is not None:
-                return text
+        if held.kind == "text" and (text := self._text("bb_text", *at)) is not None:
+            return text
+        if held.of and (label := self._text("bb_label", *at)) is not None:
+            return Label(held.of, label)
         raise KeyError((unit, slot))
 
-    def links(self, unit, slot):
-        """The numbers of a unit's partners by a link slot, in order of addition. `KeyError` as `get`; an ordinary slot has
-        none."""
-        if (found := self._units("bb_links", _unit(unit), *_bytes(slot))) is None:
+    def _slot_of(self, unit: int, slot: str) -> Slot:
+        """An ordinary slot of a unit, as the schema declares it."""
+        class_name = self.class_of(unit)
+        slots = self.schema.classes[class_name].slots if class_name else {}
+        if slot not in slots:
+            raise KeyError((unit, slot))
+        return slots[slot]
+
+    def links(self, unit: int, slot: str) -> list[int]:
+        """Returns the numbers of a unit's partners by a link slot, in the order of linking; by an ordinary slot there are none.
+
+        Raises `KeyError` if there is no such unit, or its class has no such slot; `OutOfMemory`; and what `class_of` raises.
+        """
+        if (found := self._units("bb_links", as_unit(unit), *as_bytes(slot))) is None:
             raise KeyError((unit, slot))
         return found
 
-    def units(self, class_name):
-        """The numbers of the units of a class, and of those below it, rising. `KeyError` where there is no such class."""
-        if (found := self._units("bb_units", *_bytes(class_name))) is None:
+    def units(self, class_name: str) -> list[int]:
+        """Returns the numbers of the units of a class, and of the classes below it, ascending.
+
+        Raises `KeyError` if there is no such class, or the run was finished; `OutOfMemory`; and `Misuse` if there is no run.
+        """
+        if (found := self._units("bb_units", *as_bytes(class_name))) is None:
             raise KeyError(class_name)
         return found
 
-    def document(self):
-        """The blackboard as a document of first units, which an input takes below its line `%units`. Units have new
-        numbers there, from 1 without gaps; the agenda is left out."""
+    def __iter__(self) -> Iterator[int]:
+        """Iterates over the numbers of all units, ascending, as they are now. Raises `OutOfMemory`, and `Misuse` if there is
+        no run or it was finished."""
+        if self._ending is not None:
+            raise Misuse("the run was finished")
+        return iter(sorted(unit for top in self.schema.tops() for unit in self.units(top)))
+
+    def __contains__(self, unit: object) -> bool:
+        """Whether there is a unit of that number. Raises `Misuse` if there is no run."""
+        return isinstance(unit, int) and 0 <= unit < 1 << 64 and self.class_of(unit) is not None
+
+    def document(self) -> str:
+        """Returns the blackboard as a document of initial units, which an input has below its line `%units`. Units have new
+        numbers there, from 1 without gaps; pending activations are left out.
+
+        Raises `OutOfMemory`, and `Misuse` if there is no run or it was finished.
+        """
         if (text := self._text("bb_document")) is None:
             raise Misuse("the run was finished")
         return text
 
-    def most_steps(self, found=1 << 16):
-        """The greatest number of steps that an execution of any code of the sources can make, where no sequence that it
-        finds has more than `found` units; 2^64 - 1: so many or more."""
+    def most_steps(self, found: int = 1 << 16) -> int:
+        """Returns the maximum number of steps of one execution of any code of the sources, if no sequence that it finds has
+        more than `found` units; at most 2^64 - 1. A turn may execute several: an action, and what its events ask of sources.
+
+        Raises `OverflowError` if `found` is negative or not below 2^32, and `Misuse` if there is no run or it was finished.
+        """
         steps = ctypes.c_uint64()
-        if not self._looked("bb_most_steps", _within(found, 0, 1 << 32), ctypes.byref(steps)):
+        if not self._looked("bb_most_steps", within(found, 0, 1 << 32), ctypes.byref(steps)):
             raise Misuse("the run was finished")
         return steps.value
 
     @property
-    def creates(self):
-        """Whether a code of the sources has an op that makes a unit."""
+    def creates(self) -> bool:
+        """Whether a code of the sources has an op that creates a unit. Raises `Misuse` if there is no run or it was finished."""
         truth = ctypes.create_string_buffer(1)
         if not self._looked("bb_creates", truth):
             raise Misuse("the run was finished")
         return truth.raw != b"\0"
 
     @property
-    def due(self):
-        """The unit on which a native is due, and the native's name, or None where none is due."""
+    def due(self) -> tuple[int, str] | None:
+        """The unit on which a native is due, and the native's name, or None if none is. Raises `Misuse` if there is no run."""
         unit, name, length = ctypes.c_uint64(), ctypes.create_string_buffer(_NAME), ctypes.c_size_t()
         if not self._looked("bb_due", ctypes.byref(unit), name, _NAME, ctypes.byref(length)):
             return None
         return unit.value, name.raw[: length.value].decode()
 
     @property
-    def next(self):
-        """The number that the next new unit gets, asks that wait left out."""
-        return self._call("bb_next")
+    def next(self) -> int:
+        """The number of the next new unit, without the asks that are gathered; 0 if there is no run, or it was finished."""
+        return int(self._call("bb_next"))
 
     @property
-    def made(self):
-        """The number of cycles that were made."""
-        return self._call("bb_made")
+    def made(self) -> int:
+        """The number of cycles that were made; 0 if there is no run, or it was finished."""
+        return int(self._call("bb_made"))
 
     @property
-    def ending(self):
+    def ending(self) -> Ending | None:
         """How the run ended, or None before `finish`."""
         return self._ending
 
+    def __repr__(self) -> str:
+        if not self._handle.is_open:
+            return "<railcitron.Run: closed>"
+        state = f"finished, {self._ending}" if self._ending else _STATES.get(self._stands, "going")
+        return f"<railcitron.Run: {state}>"
+
     # ---- the end
 
-    def close(self):
-        """Gives back all memory of the run. What was not read is lost. A run that is closed may be closed again."""
-        if os.getpid() == self._home[1]:
-            self._call("bb_close")
-
-    def __enter__(self):
+    def __enter__(self) -> Run:
         return self
 
-    def __exit__(self, *raised):
+    def __exit__(self, *raised: object) -> None:
         self.close()
-
-    def __del__(self):
-        handle = getattr(self, "_handle", None)
-        if handle is not None and handle.is_open and os.getpid() == self._home[1]:
-            warnings.warn("a run was not closed", ResourceWarning, source=self)
-
-    # ---- calls
-
-    def _call(self, name, *passed):
-        if (threading.get_ident(), os.getpid()) != self._home:
-            raise Misuse("a run stays on the thread, and in the process, that made it")
-        return getattr(self._library, name)(ctypes.byref(self._handle), *passed)
-
-    def _looked(self, name, *passed):
-        """Whether what a call looks up is there."""
-        status = self._call(name, *passed)
-        if status == calls.REFUSED:
-            raise Refused(f"{name} is refused {passed!r}")
-        if status == calls.MEMORY:
-            raise OutOfMemory(f"there is no memory for {name}")
-        if status == calls.MISUSE:
-            raise Misuse("there is no run")
-        return status == calls.OK
-
-    def _text(self, name, *passed):
-        """The text that a call looks up, or None."""
-        room = 1 << 8
-        while True:
-            text, length = ctypes.create_string_buffer(room), ctypes.c_size_t()
-            if not self._looked(name, *passed, text, room, ctypes.byref(length)):
-                return None
-            if length.value <= room:
-                return text.raw[: length.value].decode()
-            room = length.value
-
-    def _units(self, name, *passed):
-        """The numbers that a call looks up, or None."""
-        room = 16
-        while True:
-            found, count = (ctypes.c_uint64 * room)(), ctypes.c_size_t()
-            if not self._looked(name, *passed, found, room, ctypes.byref(count)):
-                return None
-            if count.value <= room:
-                return found[: count.value]
-            room = count.value
-
-    def _moved(self, stands):
-        """Whether the run goes on."""
-        if stands == calls.FULL:
-            raise Full("the run is over, for want of room")
-        if stands == calls.MEMORY:
-            raise OutOfMemory("memory ran out")
-        if stands == calls.MISUSE:
-            raise Misuse("there is no run, or it was finished")
-        return stands in (calls.GOING, calls.DUE)
-
-    def _pieces(self):
-        """The bytes that were not read yet."""
-        length = ctypes.c_size_t()
-        while True:
-            status = self._call("bb_read", self._room, _ROOM, ctypes.byref(length))
-            if status == calls.MISUSE:
-                raise Misuse("there is no run")
-            if length.value == 0:
-                return
-            yield self._room[: length.value]

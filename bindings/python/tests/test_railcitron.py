@@ -3,24 +3,47 @@
     python3 -m unittest discover bindings/python/tests
 """
 
+import copy
+import ctypes
+import os
+import pickle
+import shutil
+import subprocess
 import sys
+import tempfile
 import threading
 import unittest
 import warnings
 from pathlib import Path
+from types import SimpleNamespace
 
 sys.dont_write_bytecode = True
-sys.path.insert(0, str(Path(__file__).resolve().parent.parent))
+HOME = Path(__file__).resolve().parent.parent
+sys.path.insert(0, str(HOME))
 import railcitron  # noqa: E402
-from railcitron import Interval, Label, _library  # noqa: E402
+from railcitron import Interval, Label, _library, _schema  # noqa: E402
+
+DATA = b"""%schema
+{"labels": [{"name": "state", "values": ["waiting", "done"]}, {"name": "hue", "values": ["red"]}],
+ "classes": [{"name": "task",
+              "slots": [{"name": "due", "kind": "int"}, {"name": "late", "kind": "bool"}, {"name": "name", "kind": "text"},
+                        {"name": "state", "kind": "label", "of": "state"}, {"name": "span", "kind": "interval"}],
+              "links": [{"name": "next", "to": "task", "many": true, "inverse": "last"},
+                        {"name": "last", "to": "task", "many": true, "inverse": "next"}]},
+             {"name": "job", "parent": "task", "slots": [{"name": "grams", "kind": "int"}]}],
+ "spaces": [{"name": "tray", "classes": ["job"], "dims": []}]}
+%sources
+"""
 
 
 class Library:
     """It answers each call with the next status that it was given for it, or 0, and notes what was passed."""
 
-    def __init__(self, trace=(), due=(), **statuses):
+    def __init__(self, trace=(), due=(), classes=(), told=b"refused schema 1\n", **statuses):
         self.trace = list(trace)
         self.due = list(due)
+        self.classes = dict(classes)
+        self.told = told
         self.statuses = {name: list(it) for name, it in statuses.items()}
         self.called = []
 
@@ -43,6 +66,8 @@ class Library:
         return 0
 
     def bb_due(self, run, unit, name, size, length):
+        if not run._obj.is_open:
+            return 9
         if not self.due:
             return 1
         unit._obj.value, text = self.due[0]
@@ -50,15 +75,34 @@ class Library:
         length._obj.value = len(text)
         return 0
 
+    def bb_class(self, run, unit, room, size, length):
+        if unit not in self.classes:
+            return 1
+        text = self.classes[unit].encode()
+        room[: len(text)] = text
+        length._obj.value = len(text)
+        return 0
+
+    def bb_label(self, run, unit, slot, slot_len, room, size, length):
+        room[:4] = b"done"
+        length._obj.value = 4
+        return 0
+
+    def bb_units(self, run, name, name_len, found, size, count):
+        units = [unit for unit, it in self.classes.items() if it == name.decode()]
+        found[: len(units)] = units
+        count._obj.value = len(units)
+        return 0
+
     def bb_answer(self, run):
         self.due.pop(0)
         return self.answer("bb_answer", run, ())
 
     def bb_serve(self, data, size, mode, limit, floor, room, length, written):
-        line = b"refused schema 1\n"
+        line = self.told[:length]
         room[: len(line)] = line
         written._obj.value = len(line)
-        return 2
+        return 6 if len(self.told) > length else 2
 
     def names(self):
         return [it[0] for it in self.called]
@@ -80,9 +124,34 @@ class Runs(unittest.TestCase):
     def test_refused(self):
         with self.assertRaises(railcitron.Refused) as caught:
             railcitron.Run(b"", library=Library(bb_open=[2]))
-        self.assertEqual(caught.exception.line, "refused schema 1")
+        self.assertEqual((caught.exception.line, str(caught.exception)), ("refused schema 1", "refused schema 1"))
         self.assertRaises(MemoryError, railcitron.Run, b"", library=Library(bb_open=[5]))
-        self.assertRaises(TypeError, railcitron.Run, 5, library=Library())
+
+    def test_a_reason_that_is_not_the_runs(self):
+        library = Library(bb_open=[2, 2, 2], told=b"refused rule count 8\n")
+        for natives in ([], ["other"]):
+            with self.assertRaises(railcitron.Refused) as caught:
+                railcitron.Run(b"", natives=natives, library=library)
+            self.assertEqual(caught.exception.line, "refused rule count 8")
+        with self.assertRaises(railcitron.Refused) as caught:
+            railcitron.Run(b"", natives=["count"], library=library)
+        self.assertIsNone(caught.exception.line)
+        self.assertIn("the source count or after it", str(caught.exception))
+
+    def test_a_long_reason(self):
+        told = b"refused compile " + 5000 * b"x" + b" 1:1 1\n"
+        with self.assertRaises(railcitron.Refused) as caught:
+            railcitron.Run(b"", library=Library(bb_open=[2], told=told))
+        self.assertEqual(caught.exception.line, told.decode().strip())
+
+    def test_inputs(self):
+        for data in ("%schema\n", b"%schema\n", bytearray(b"%schema\n"), memoryview(b"%schema\n")):
+            library = Library()
+            railcitron.Run(data, library=library).close()
+            self.assertEqual(library.called[0][1], b"%schema\n")
+        for data in (5, None, Path("input.bb"), [1]):
+            with self.assertRaisesRegex(TypeError, "an input is a str, or bytes"):
+                railcitron.Run(data, library=Library())
 
     def test_reading_in_pieces(self):
         text = 'say "grün"\n'.encode()
@@ -90,6 +159,13 @@ class Runs(unittest.TestCase):
             self.assertEqual(run.read(), 'say "grün"\n')
             self.assertEqual(run.finish(), "")
             self.assertEqual(run.ending, "limit")
+
+    def test_lines(self):
+        pieces = ['say "a\u2028b\x85c"\nsay "'.encode(), b'd"\n', b"", b"post\ncut"]
+        with railcitron.Run(b"", library=Library(pieces)) as run:
+            self.assertEqual(list(run.lines()), ['say "a\u2028b\x85c"', 'say "d"'])
+            self.assertEqual(list(run.lines()), ["post", "cut"])
+            self.assertEqual(list(run.lines()), [])
 
     def test_threads(self):
         faults = []
@@ -107,18 +183,51 @@ class Runs(unittest.TestCase):
         self.assertEqual(len(faults), 1)
 
     def test_one_that_is_not_closed(self):
-        run = railcitron.Run(b"", library=Library())
+        library = Library()
+        run = railcitron.Run(b"", library=library)
         with warnings.catch_warnings(record=True) as told:
             warnings.simplefilter("always")
             run.__del__()
-        run.close()
         self.assertEqual([it.category for it in told], [ResourceWarning])
+        self.assertEqual(library.names(), ["bb_open", "bb_close"])
+
+    def test_one_that_is_not_closed_elsewhere(self):
+        library = Library()
+        run = railcitron.Run(b"", library=library)
+        with warnings.catch_warnings(record=True) as told:
+            warnings.simplefilter("always")
+            thread = threading.Thread(target=run.__del__)
+            thread.start()
+            thread.join()
+        self.assertEqual(([it.category for it in told], library.names()), ([ResourceWarning], ["bb_open"]))
+        run.close()
+
+    def test_repr(self):
+        with railcitron.Run(b"", library=Library(bb_open=[3], bb_turn=[0, 4], bb_finish=[4])) as run:
+            told = [repr(run)]
+            run.turn()
+            told.append(repr(run))
+            self.assertRaises(railcitron.Full, run.turn)
+            told.append(repr(run))
+            run.finish()
+            told.append(repr(run))
+        told.append(repr(run))
+        states = ["going", "at rest", "full", "finished, full", "closed"]
+        self.assertEqual(told, [f"<railcitron.Run: {it}>" for it in states])
+
+    def test_units(self):
+        library = Library(classes={1: "focus", 4: "task", 2: "job", 3: "task"})
+        with railcitron.Run(DATA, library=library) as run:
+            self.assertEqual(list(run), [1, 3, 4])
+            self.assertEqual([it in run for it in (1, 2, 5, -1, 1 << 64, "1")], [True, True, False, False, False, False])
+            run.finish()
+            self.assertRaises(railcitron.Misuse, iter, run)
 
 
 class Posts(unittest.TestCase):
     def test_asks(self):
-        library = Library(bb_next=[7, 7], bb_post=[3])
-        with railcitron.Run(b"", library=library) as run, run.post() as asks:
+        library = Library(bb_next=[7], bb_post=[3])
+        with railcitron.Run(DATA, library=library) as run, run.post() as asks:
             first, second = asks.new("job"), asks.new("job")
             asks.set(first, "due", 12)
             asks.set(first, "late", True)
@@ -128,6 +237,7 @@ class Posts(unittest.TestCase):
             asks.link(first, "next", second)
             asks.delete(second)
             asks.say("")
+            self.assertEqual(len(asks), 10)
         self.assertEqual((first, second), (7, 8))
         called = [it for it in library.called if it[0].startswith("bb_ask")]
         wanted = [
@@ -143,15 +253,62 @@ class Posts(unittest.TestCase):
         self.assertEqual(called[2:], wanted)
         self.assertEqual(library.names()[-2:], ["bb_post", "bb_close"])
 
+    def test_a_label_that_is_read_is_written(self):
+        library = Library(bb_next=[9], classes={7: "job"})
+        with railcitron.Run(DATA, library=library) as run:
+            read = run.get(7, "state")
+            self.assertEqual((read, read.set, read.label, f"{read}"), ("done", "state", "done", "done"))
+            with run.post() as asks:
+                asks.set(7, "state", read)
+                asks.set(7, "state", "done")
+                asks.set(asks.new("task"), "state", "done")
+        called = [it for it in library.called if it[0] == "bb_ask_label"]
+        self.assertEqual(called, [("bb_ask_label", it, b"state", 5, b"state", 5, b"done", 4) for it in (7, 7, 9)])
+
+    def test_names_that_the_schema_lacks(self):
+        library = Library(bb_next=[9], bb_ask_label=[2], bb_ask_interval=[2], classes={7: "job"})
+        with railcitron.Run(DATA, library=library) as run, run.post() as asks:
+            for ask, *passed in (
+                (asks.new, "jop"),
+                (asks.set, 7, "dew", 1),
+                (asks.set, 7, "next", 1),
+                (asks.set, 7, "state", Label("hue", "red")),
+                (asks.set, 7, "state", "late"),
+                (asks.set, 7, "span", Interval(1, 0)),
+                (asks.link, 7, "due", 7),
+                (asks.unlink, 7, "nest", 7),
+                (asks.enter, 7, "tree"),
+                (asks.leave, 7, "tree"),
+            ):
+                with self.assertRaises(railcitron.Refused) as caught:
+                    ask(*passed)
+                self.assertIsNone(caught.exception.line)
+                self.assertNotIn("bb_", str(caught.exception))
+            for value in ("1", True, Interval(1, 2), Label("state", "done"), 1.5, None):
+                self.assertRaises(TypeError, asks.set, 7, "due", value)
+            self.assertEqual(len(asks), 0)
+            asks.set(8, "dew", "a unit that is not live has no class")
+            self.assertEqual(asks.new("job"), 9)
+
+    def test_those_that_are_refused(self):
+        pieces = [b"create 1 job\nrefused ask 9 9\n", b"", b'post\nrefused ask 2 1\nsay "refused ask 5 5"\nrefu', b"sed ask 4 5\nend post 4\n"]
+        with railcitron.Run(DATA, library=Library(pieces)) as run:
+            with run.post() as asks:
+                asks.say("")
+            self.assertEqual(asks.refused, [(2, 1), (4, 5)])
+            self.assertEqual(asks.refused[0].why, "a unit that it names is not live")
+            self.assertEqual(run.read(), b"".join(pieces).decode())
+            self.assertEqual(run.read(), "")
+
     def test_a_block_that_raises(self):
         library = Library(bb_ask_label=[2])
-        with railcitron.Run(b"", library=library) as run:
+        with railcitron.Run(DATA, library=library) as run:
             with self.assertRaises(railcitron.Refused), run.post() as asks:
                 asks.new("job")
                 asks.set(1, "state", Label("state", "late"))
             self.assertRaises(railcitron.Misuse, asks.new, "job")
         self.assertNotIn("bb_post", library.names())
-        self.assertEqual(library.names()[-2:], ["bb_discard", "bb_close"])
+        self.assertEqual([it for it in library.names() if it != "bb_ask_new"][-2:], ["bb_discard", "bb_close"])
 
     def test_one_post_at_a_time(self):
         with railcitron.Run(b"", library=Library()) as run:
@@ -160,23 +317,79 @@ class Posts(unittest.TestCase):
             with run.post():
                 pass
 
+    def test_no_move_in_a_block(self):
+        library = Library()
+        with railcitron.Run(b"", library=library) as run:
+            with run.post() as asks:
+                for move in (run.turn, lambda: run.advance(1), run.finish):
+                    self.assertRaises(railcitron.Misuse, move)
+                asks.say("kept")
+        self.assertEqual(library.names()[-3:], ["bb_ask_say", "bb_post", "bb_close"])
+        self.assertFalse({"bb_turn", "bb_advance", "bb_finish"} & {*library.names()})
+
+    def test_a_run_that_can_not_be_posted_to(self):
+        for given, move, fault in (
+            ({"due": [(7, "weigh")]}, None, railcitron.Due),
+            ({"bb_open": [4]}, None, railcitron.Full),
+            ({"bb_turn": [4]}, "turn", railcitron.Full),
+            ({"bb_turn": [5]}, "turn", railcitron.OutOfMemory),
+            ({}, "finish", railcitron.Misuse),
+            ({}, "close", railcitron.Misuse),
+        ):
+            library = Library(**given)
+            with railcitron.Run(b"", library=library) as run:
+                if move == "turn":
+                    self.assertRaises(fault, run.turn)
+                elif move:
+                    getattr(run, move)()
+                self.assertRaises(fault, run.post)
+            self.assertFalse({"bb_discard", "bb_post"} & {*library.names()}, given)
+
+    def test_what_became_of_a_run_meanwhile(self):
+        library = Library()
+        with railcitron.Run(b"", library=library) as run:
+            posting = run.post()
+            library.due.append((7, "weigh"))
+            self.assertRaises(railcitron.Due, posting.__enter__)
+            answering = run.answer()
+            library.due.clear()
+            self.assertRaises(railcitron.Misuse, answering.__enter__)
+        self.assertFalse({"bb_discard", "bb_post", "bb_answer"} & {*library.names()})
+
     def test_numbers_that_C_can_not_take(self):
-        with railcitron.Run(b"", library=Library()) as run, run.post() as asks:
+        with railcitron.Run(DATA, library=Library(classes={1: "job"})) as run, run.post() as asks:
             self.assertRaises(OverflowError, asks.set, 1, "due", 1 << 63)
             self.assertRaises(OverflowError, asks.delete, -1)
             self.assertRaises(TypeError, asks.set, 1, "due", 1.5)
+        with railcitron.Run(b"", library=Library()) as run:
             self.assertRaises(OverflowError, run.advance, 1 << 32)
 
 
 class Natives(unittest.TestCase):
     def run_of(self, **given):
-        self.library = Library(**given)
-        return railcitron.Run(b"", natives=["price", "weigh"], library=self.library)
+        self.library = Library(classes={7: "job", 8: "job"}, **given)
+        return railcitron.Run(DATA, natives=["price", "weigh"], library=self.library)
 
     def test_names(self):
         with self.run_of() as run:
             self.assertRaises(railcitron.Misuse, run.native, "prices")
-        self.assertEqual(self.library.called[0], ("bb_open", b"", 0, b"price\nweigh", 11, 0))
+        self.assertEqual(self.library.called[0], ("bb_open", DATA, len(DATA), b"price\nweigh", 11, 0))
+
+    def test_names_that_are_none(self):
+        for natives in ("weigh", b"weigh", [5], {"weigh": 5}, 5):
+            self.assertRaises(TypeError, railcitron.Run, b"", natives=natives, library=Library())
+        for name in ("", "weigh\nprice", "Weigh", "1"):
+            self.assertRaises(ValueError, railcitron.Run, b"", natives=[name], library=Library())
+
+    def test_functions_by_their_names(self):
+        acted = []
+        library = Library(due=[(7, "weigh"), (8, "price")], bb_turn=[8, 8])
+        natives = {"price": None, "weigh": lambda unit, asks: acted.append(unit)}
+        with railcitron.Run(DATA, natives=natives, library=library) as run:
+            self.assertTrue(run.turn())
+            self.assertRaises(railcitron.Due, run.turn)
+        self.assertEqual((acted, library.called[0][3:5]), ([7], (b"price\nweigh", 11)))
+        self.assertIsNone(natives["price"])
 
     def test_a_function_answers(self):
         with self.run_of(due=[(7, "weigh")], bb_turn=[8, 0], bb_answer=[3]) as run:
@@ -222,10 +435,88 @@ class Natives(unittest.TestCase):
             self.assertEqual(run.due, (7, "price"))
         self.assertEqual(self.library.names()[-2:], ["bb_discard", "bb_close"])
 
+    def test_a_function_that_moves(self):
+        with self.run_of(due=[(7, "price")], bb_turn=[8]) as run:
+            run.native("price")(lambda unit, asks: run.turn())
+            self.assertRaises(railcitron.Misuse, run.turn)
+            self.assertEqual((run.due, self.library.names().count("bb_turn")), ((7, "price"), 1))
+
+
+class Values(unittest.TestCase):
+    def test_what_is_pickled(self):
+        faults = [railcitron.Due(7, "weigh"), railcitron.Refused("refused schema 1"), railcitron.Refused(None, "why"), railcitron.Full("full")]
+        for fault in faults:
+            for it in (pickle.loads(pickle.dumps(fault)), copy.copy(fault)):
+                self.assertEqual((type(it), str(it), it.__dict__), (type(fault), str(fault), fault.__dict__))
+        for value in (Label("hue", "red"), Interval(1, 2), railcitron.RefusedAsk(1, 2)):
+            it = pickle.loads(pickle.dumps(value))
+            self.assertEqual((it, type(it), repr(it)), (value, type(value), repr(value)))
+
+    def test_labels(self):
+        label = Label("hue", "red")
+        self.assertEqual((label, hash(label), repr(label)), ("red", hash("red"), "Label('hue', 'red')"))
+        match label:
+            case Label(names, name):
+                self.assertEqual((names, name, type(name)), ("hue", "red", str))
+
+
+class Schemas(unittest.TestCase):
+    def test_sections(self):
+        for data, section in (
+            (b"%schema\n{}\n%units\n{}\n", b"{}\n"),
+            (b"%schema\r\n{\n}\r\n%sources\r\n", b"{\n}\r\n"),
+            (b"%schema\n{}", b"{}"),
+            (b'%schema\n{"a":"%units "}\n%unitsx\n%bundle', b'{"a":"%units "}\n%unitsx\n'),
+        ):
+            self.assertEqual(_schema.section_of(data), section)
+
+    def test_classes(self):
+        schema = _schema.Schema(_schema.section_of(DATA))
+        self.assertEqual((schema.tops(), [*schema.classes]), (["focus", "task"], ["focus", "task", "job"]))
+        self.assertEqual([*schema.classes["job"].slots], ["due", "late", "name", "state", "span", "grams"])
+        self.assertEqual(schema.classes["job"].links, {"next", "last"})
+        self.assertEqual([*schema.classes["focus"].slots], ["source", "area", "weight", "active"])
+
 
 class Calls(unittest.TestCase):
     def test_handle(self):
         self.assertEqual((_library.Handle().at, _library.Handle().is_open), (None, 0))
+
+    def test_a_version(self):
+        def library(version, *lacks):
+            return SimpleNamespace(**{name: lambda: version for name in _library.CALLS if name not in lacks})
+
+        self.assertEqual(_library.with_types(library(2), "libbb.so").bb_post.argtypes, [ctypes.POINTER(_library.Handle)])
+        for it, told in (
+            (library(1, "bb_due"), "libbb.so has version 1 of the calls, and this package needs version 2"),
+            (library(3), "libbb.so has version 3 of the calls, and this package needs version 2"),
+            (library(2, "bb_creates"), "libbb.so has version 2 of the calls, as this package, but not bb_creates"),
+            (library(2, "bb_version"), "libbb.so has calls of another kind, but not bb_version"),
+        ):
+            with self.assertRaises(OSError) as caught:
+                _library.with_types(it, "libbb.so")
+            self.assertIn(told, str(caught.exception))
+
+    def test_a_library_that_is_missing(self):
+        with tempfile.TemporaryDirectory() as room:
+            with self.assertRaisesRegex(FileNotFoundError, f"{room}/libbb.so.*RAILCITRON_LIBRARY"):
+                railcitron.load(Path(room, "libbb.so"))
+            Path(room, "libbb.so").write_text("no library")
+            with self.assertRaisesRegex(OSError, "can't be loaded.*RAILCITRON_LIBRARY"):
+                railcitron.load(Path(room, "libbb.so"))
+
+    def test_one_that_was_installed_from_its_source(self):
+        words = [sys.executable, "-B", "-c", "import railcitron; railcitron.Run('')"]
+        env = {name: it for name, it in os.environ.items() if name not in ("RAILCITRON_LIBRARY", "PYTHONPATH")}
+        with tempfile.TemporaryDirectory() as room:
+            shutil.copytree(HOME / "railcitron", Path(room, "railcitron"), ignore=shutil.ignore_patterns("*.so", "__pycache__"))
+            ran = subprocess.run(words, cwd=room, env=env, capture_output=True, text=True)
+        self.assertRegex(ran.stderr, "FileNotFoundError: .*installed from its source.*wheel of a release.*RAILCITRON_LIBRARY")
+
+    def test_types_are_told(self):
+        self.assertTrue(Path(railcitron.__file__).with_name("py.typed").exists())
+        self.assertRegex(railcitron.__version__, r"^\d+\.\d+\.\d+$")
+        self.assertEqual(ctypes.sizeof(_library.Handle), 16)
 
 
 if __name__ == "__main__":
