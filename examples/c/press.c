@@ -12,7 +12,7 @@
 #include <stdlib.h>
 #include <string.h>
 
-enum { PRESSES = 2, NAME = 32, LINE = 256 };
+enum { PRESSES = 2, NAME = 32, PIECE = 4096 };
 
 /* A job as it comes, or none. */
 struct job {
@@ -21,14 +21,11 @@ struct job {
     int is_there;
 };
 
-/* A run, the file for its trace, if there is one, the time, when the job of each press ends (0: it has none), and the line
-   of the trace that is being read. */
+/* A run, the file for its trace, if there is one, the time, and when the job of each press ends (0: it has none). */
 struct shop {
     bb_run run;
     FILE *trace;
     int64_t now, ends[PRESSES];
-    char line[LINE];
-    size_t len;
 };
 
 static int fail(const char *why)
@@ -59,34 +56,42 @@ static struct job next_job(void)
     return job;
 }
 
-/* Tells a decision: a line `say #UNIT "PRESS" "begins" "JOB" HOURS DUE`. Other lines are of no use here. */
-static void tell(struct shop *shop)
-{
-    uint64_t unit;
-    char press[NAME], job[NAME];
-    int64_t hours, due;
-    const char *form = "say #%" SCNu64 " \"%31[^\"]\" \"begins\" \"%31[^\"]\" %" SCNd64 " %" SCNd64;
-    if (sscanf(shop->line, form, &unit, press, job, &hours, &due) != 5 || unit < 1 || unit > PRESSES)
-        return;
-    int64_t end = shop->ends[unit - 1] = shop->now + hours;
-    printf("%" PRId64 ": %s begins %s, until %" PRId64 "%s\n", shop->now, press, job, end, end > due ? ", late" : "");
-}
-
-/* Reads what the run told since it was read last, line by line. The end of a line that is too long is dropped. */
+/* Reads what the run told since it was read last. */
 static void read_trace(struct shop *shop)
 {
-    uint8_t bytes[LINE];
+    uint8_t bytes[PIECE];
     size_t len;
-    while (bb_read(&shop->run, bytes, sizeof bytes, &len) == BB_OK && len > 0) {
+    while (bb_read(&shop->run, bytes, sizeof bytes, &len) == BB_OK && len > 0)
         if (shop->trace != NULL)
             fwrite(bytes, 1, len, shop->trace);
-        for (size_t i = 0; i < len; i++) {
-            int is_end = bytes[i] == '\n';
-            shop->line[shop->len] = is_end ? 0 : (char)bytes[i];
-            if (is_end)
-                tell(shop);
-            shop->len = is_end ? 0 : shop->len + (shop->len + 1 < LINE);
-        }
+}
+
+/* A unit's name, or as much of it as there is room for. */
+static void read_name(bb_run *run, uint64_t unit, char name[NAME])
+{
+    size_t len = 0;
+    if (bb_text(run, unit, BB_S("name"), (uint8_t *)name, NAME - 1, &len) != BB_OK)
+        len = 0;
+    name[len < NAME ? len : NAME - 1] = 0;
+}
+
+/* Tells what was decided: which job each press has that had none. */
+static void tell(struct shop *shop)
+{
+    bb_run *run = &shop->run;
+    for (uint64_t press = 1; press <= PRESSES; press++) {
+        uint64_t job;
+        size_t count;
+        int64_t hours, due;
+        if (shop->ends[press - 1] != 0 || bb_links(run, press, BB_S("job"), &job, 1, &count) != BB_OK || count == 0
+            || bb_int(run, job, BB_S("hours"), &hours) != BB_OK || bb_int(run, job, BB_S("due"), &due) != BB_OK)
+            continue;
+        char names[2][NAME];
+        read_name(run, press, names[0]);
+        read_name(run, job, names[1]);
+        int64_t end = shop->ends[press - 1] = shop->now + hours;
+        printf("%" PRId64 ": %s begins %s, until %" PRId64 "%s\n", shop->now, names[0], names[1], end,
+               end > due ? ", late" : "");
     }
 }
 
@@ -97,6 +102,8 @@ static uint8_t decide(struct shop *shop, uint8_t asked)
     while (stands == BB_GOING)
         stands = bb_turn(&shop->run);
     read_trace(shop);
+    if (stands == BB_RESTING)
+        tell(shop);
     return stands;
 }
 
@@ -175,7 +182,7 @@ int main(int count, char **words)
     uint8_t *input = read_file(words[1], &len);
     if (input == NULL)
         return fail("the input can't be read");
-    struct shop shop = {BB_RUN_NONE, NULL, 0, {0}, "", 0};
+    struct shop shop = {BB_RUN_NONE, NULL, 0, {0}};
     if (count == 3 && (shop.trace = fopen(words[2], "wb")) == NULL)
         return fail("the trace can't be written");
     uint8_t stands = bb_open(&shop.run, input, len, BB_S(""), 0);

@@ -1,6 +1,6 @@
 /* A host in C whose sources act by a native of the host. It holds a run of examples/c/scale.bb. Parcels come on its
    standard input, a line each: NAME GRAMS. It posts each as it comes; where the native `weigh` is due it answers with
-   the weight; and it tells on which belt each goes. At the end it writes the blackboard, as a document of first units.
+   the weight; and it tells on which belt each goes. At the end it writes the blackboard, as a document of initial units.
    Its status is that in which the run ends, or 1 where the host itself failed.
 
        scale examples/c/scale.bb < examples/c/scale.parcels */
@@ -11,7 +11,7 @@
 #include <stdlib.h>
 #include <string.h>
 
-enum { NAME = 32, LINE = 256 };
+enum { NAME = 32, PIECE = 4096 };
 
 static int fail(const char *why)
 {
@@ -34,18 +34,25 @@ static uint8_t *read_file(const char *path, size_t *len)
     return bytes;
 }
 
-/* Tells what the run said: lines `say "PARCEL" BELT GRAMS`. None is longer than LINE. */
-static void tell(bb_run *run)
+/* Reads what the run told, which is of no use here. */
+static void skip_trace(bb_run *run)
 {
-    char line[LINE] = "", name[NAME], belt[NAME];
-    size_t len = 0, read;
+    uint8_t bytes[PIECE];
+    size_t len;
+    while (bb_read(run, bytes, sizeof bytes, &len) == BB_OK && len > 0)
+        continue;
+}
+
+/* Tells on which belt a parcel goes. */
+static void tell(bb_run *run, uint64_t parcel)
+{
+    char name[NAME], belt[NAME];
+    size_t name_len, belt_len;
     int64_t grams;
-    for (uint8_t byte; bb_read(run, &byte, 1, &read) == BB_OK && read == 1;) {
-        line[len] = byte == '\n' ? 0 : (char)byte;
-        len = byte == '\n' ? 0 : len + (len + 2 < LINE);
-        if (len == 0 && sscanf(line, "say \"%31[^\"]\" %31s %" SCNd64, name, belt, &grams) == 3)
-            printf("%s: %s, %" PRId64 " g\n", name, belt, grams);
-    }
+    if (bb_text(run, parcel, BB_S("name"), (uint8_t *)name, NAME, &name_len) == BB_OK && name_len <= NAME
+        && bb_label(run, parcel, BB_S("belt"), (uint8_t *)belt, NAME, &belt_len) == BB_OK && belt_len <= NAME
+        && bb_int(run, parcel, BB_S("grams"), &grams) == BB_OK)
+        printf("%.*s: %.*s, %" PRId64 " g\n", (int)name_len, name, (int)belt_len, belt, grams);
 }
 
 /* Answers for the native that is due: what lies on the scale has so many grams. Returns how the run stands then. */
@@ -70,7 +77,9 @@ static uint8_t parcel_comes(bb_run *run, const char *name, int64_t grams)
     uint8_t stands = asked == BB_OK ? bb_post(run) : asked;
     while (stands == BB_GOING || stands == BB_DUE)
         stands = stands == BB_DUE ? weigh(run, grams) : bb_turn(run);
-    tell(run);
+    skip_trace(run);
+    if (stands == BB_RESTING)
+        tell(run, unit);
     return stands;
 }
 

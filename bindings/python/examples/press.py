@@ -5,36 +5,46 @@
 
 Jobs come on its standard input, by rising time, a line each: TIME HOURS DUE NAME. It posts each as it comes, and that a
 press is free when its job has ended, lets the sources decide, tells each decision, and at the end how many jobs are
-printed. Where a second file is named the trace goes there, of which `tools/see` makes a page.
+printed. If a second file is named, the trace goes there, of which `tools/see` makes a page.
 """
 
-import re
+from __future__ import annotations
+
 import sys
 from pathlib import Path
+from typing import cast
 
-sys.path.insert(0, str(Path(__file__).resolve().parent.parent))
+if (HOME := Path(__file__).resolve().parent.parent).joinpath("railcitron").is_dir():
+    sys.path.insert(0, str(HOME))
 import railcitron  # noqa: E402
-
-DECISION = re.compile(r'^say #(\d+) "([^"]*)" "begins" "([^"]*)" (-?\d+) (-?\d+)$', re.M)
 
 
 class Shop:
-    """A run, the time, and when the job of each press ends that has one."""
+    """A run, the time, when the job of each press ends that has one, and the trace."""
 
-    def __init__(self, run):
-        self.run, self.now, self.ends, self.trace = run, 0, {}, []
+    def __init__(self, run: railcitron.Run) -> None:
+        self.run = run
+        self.now = 0
+        self.ends: dict[int, int] = {}
+        self.trace: list[str] = []
 
-    def decide(self):
-        """Lets the sources decide, and tells what they decided."""
+    def decide(self) -> None:
+        """Lets the sources decide, and tells what they decided: which job each press that was free now has."""
         while self.run.turn():
             pass
-        told = self.run.read()
-        self.trace.append(told)
-        for press, name, job, hours, due in DECISION.findall(told):
-            end = self.ends[int(press)] = self.now + int(hours)
-            print(f"{self.now}: {name} begins {job}, until {end}{', late' if end > int(due) else ''}")
+        self.trace.append(self.run.read())
+        for press in self.run.units("press"):
+            if press not in self.ends:
+                for job in self.run.links(press, "job"):
+                    self.begins(press, job)
 
-    def job_comes(self, time, hours, due, name):
+    def begins(self, press: int, job: int) -> None:
+        hours, due = (cast(int, self.run.get(job, slot)) for slot in ("hours", "due"))
+        end = self.ends[press] = self.now + hours
+        late = ", late" if end > due else ""
+        print(f"{self.now}: {self.run.get(press, 'name')} begins {self.run.get(job, 'name')}, until {end}{late}")
+
+    def job_comes(self, time: int, hours: int, due: int, name: str) -> None:
         self.now = time
         with self.run.post() as asks:
             job = asks.new("job")
@@ -44,13 +54,13 @@ class Shop:
             asks.enter(job, "tray")
         self.decide()
 
-    def press_is_free(self, press):
+    def press_is_free(self, press: int) -> None:
         self.now = self.ends.pop(press)
         with self.run.post() as asks:
             asks.set(press, "free", True)
         self.decide()
 
-    def free_until(self, time=None):
+    def free_until(self, time: int | None = None) -> None:
         """Frees each press whose job has ended by then, the first first."""
         while self.ends:
             press = min(self.ends, key=lambda it: (self.ends[it], it))
@@ -59,7 +69,7 @@ class Shop:
             self.press_is_free(press)
 
 
-def main():
+def main() -> None:
     with railcitron.Run(Path(sys.argv[1]).read_bytes()) as run:
         shop = Shop(run)
         shop.decide()

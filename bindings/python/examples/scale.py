@@ -4,27 +4,26 @@
     scale.py examples/c/scale.bb < examples/c/scale.parcels
 
 Parcels come on its standard input, a line each: NAME GRAMS. It posts each as it comes, weighs it where the native `weigh`
-is due, and tells on which belt it goes; at the end it writes the blackboard, as a document of first units.
+is due, and tells on which belt it goes; at the end it writes the blackboard, as a document of initial units.
 """
 
-import re
+from __future__ import annotations
+
 import sys
 from pathlib import Path
 
-sys.path.insert(0, str(Path(__file__).resolve().parent.parent))
+if (HOME := Path(__file__).resolve().parent.parent).joinpath("railcitron").is_dir():
+    sys.path.insert(0, str(HOME))
 import railcitron  # noqa: E402
 
-SORTED = re.compile(r'^say "([^"]*)" (\w+) (\d+)$', re.M)
 
+def main() -> None:
+    scale: dict[int, int] = {}
 
-def main():
-    with railcitron.Run(Path(sys.argv[1]).read_bytes(), natives=["weigh"]) as run:
-        scale = {}
+    def weigh(unit: int, asks: railcitron.Asks) -> None:
+        asks.set(unit, "grams", scale[unit])
 
-        @run.native("weigh")
-        def weigh(unit, asks):
-            asks.set(unit, "grams", scale[unit])
-
+    with railcitron.Run(Path(sys.argv[1]).read_bytes(), natives={"weigh": weigh}) as run:
         while run.turn():
             pass
         for line in sys.stdin:
@@ -35,8 +34,8 @@ def main():
             scale[parcel] = int(grams)
             while run.turn():
                 pass
-            for told in SORTED.findall(run.read()):
-                print("{}: {}, {} g".format(*told))
+            run.read()
+            print("{}: {}, {} g".format(*(run.get(parcel, slot) for slot in ("name", "belt", "grams"))))
         print(run.document())
         run.finish()
 
