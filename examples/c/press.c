@@ -67,44 +67,60 @@ static void read_trace(struct shop *shop)
 }
 
 /* A unit's name, or as much of it as there is room for. */
-static void read_name(bb_run *run, uint64_t unit, char name[NAME])
+static uint8_t read_name(bb_run *run, uint64_t unit, char name[NAME])
 {
     size_t len = 0;
-    if (bb_text(run, unit, BB_S("name"), (uint8_t *)name, NAME - 1, &len) != BB_OK)
-        len = 0;
+    uint8_t looked = bb_text(run, unit, BB_S("name"), (uint8_t *)name, NAME - 1, &len);
     name[len < NAME ? len : NAME - 1] = 0;
+    return looked;
 }
 
-/* Tells what was decided: which job each press has that had none. */
-static void tell(struct shop *shop)
+/* Tells that a press begins a job. */
+static uint8_t tell_begin(struct shop *shop, uint64_t press, uint64_t job)
 {
     bb_run *run = &shop->run;
-    for (uint64_t press = 1; press <= PRESSES; press++) {
-        uint64_t job;
-        size_t count;
-        int64_t hours, due;
-        if (shop->ends[press - 1] != 0 || bb_links(run, press, BB_S("job"), &job, 1, &count) != BB_OK || count == 0
-            || bb_int(run, job, BB_S("hours"), &hours) != BB_OK || bb_int(run, job, BB_S("due"), &due) != BB_OK)
-            continue;
-        char names[2][NAME];
-        read_name(run, press, names[0]);
-        read_name(run, job, names[1]);
-        int64_t end = shop->ends[press - 1] = shop->now + hours;
-        printf("%" PRId64 ": %s begins %s, until %" PRId64 "%s\n", shop->now, names[0], names[1], end,
-               end > due ? ", late" : "");
-    }
+    char press_name[NAME], job_name[NAME];
+    int64_t hours, due;
+    uint8_t looked = read_name(run, press, press_name);
+    if (looked == BB_OK)
+        looked = read_name(run, job, job_name);
+    if (looked == BB_OK)
+        looked = bb_int(run, job, BB_S("hours"), &hours);
+    if (looked == BB_OK)
+        looked = bb_int(run, job, BB_S("due"), &due);
+    if (looked != BB_OK)
+        return looked;
+    int64_t end = shop->ends[press - 1] = shop->now + hours;
+    printf("%" PRId64 ": %s begins %s, until %" PRId64 "%s\n", shop->now, press_name, job_name, end,
+           end > due ? ", late" : "");
+    return BB_OK;
 }
 
-/* Posts what was asked, unless a call failed, and makes turns until the run rests. Returns how it stands then. */
+/* Tells what was decided: which job each press has that had none. Returns how the looks went. */
+static uint8_t tell(struct shop *shop)
+{
+    uint8_t looked = BB_OK;
+    for (uint64_t press = 1; press <= PRESSES && looked == BB_OK; press++) {
+        uint64_t job;
+        size_t count;
+        if (shop->ends[press - 1] != 0)
+            continue;
+        looked = bb_links(&shop->run, press, BB_S("job"), &job, 1, &count);
+        if (looked == BB_OK && count == 1)
+            looked = tell_begin(shop, press, job);
+    }
+    return looked;
+}
+
+/* Posts what was asked, unless a call failed, makes turns until the run rests, and tells what was decided. Returns
+   BB_RESTING, or why it does not. */
 static uint8_t decide(struct shop *shop, uint8_t asked)
 {
     uint8_t stands = asked == BB_OK ? bb_post(&shop->run) : asked;
     while (stands == BB_GOING)
         stands = bb_turn(&shop->run);
     read_trace(shop);
-    if (stands == BB_RESTING)
-        tell(shop);
-    return stands;
+    return stands == BB_RESTING ? tell(shop) : stands;
 }
 
 /* A job comes, as the next unit. */

@@ -43,16 +43,26 @@ static void skip_trace(bb_run *run)
         continue;
 }
 
-/* Tells on which belt a parcel goes. */
-static void tell(bb_run *run, uint64_t parcel)
+/* How many bytes of a text of such a length are there. */
+static int shown(size_t len)
+{
+    return (int)(len < NAME ? len : NAME);
+}
+
+/* Tells on which belt a parcel goes. Returns how the looks went. */
+static uint8_t tell(bb_run *run, uint64_t parcel)
 {
     char name[NAME], belt[NAME];
     size_t name_len, belt_len;
     int64_t grams;
-    if (bb_text(run, parcel, BB_S("name"), (uint8_t *)name, NAME, &name_len) == BB_OK && name_len <= NAME
-        && bb_label(run, parcel, BB_S("belt"), (uint8_t *)belt, NAME, &belt_len) == BB_OK && belt_len <= NAME
-        && bb_int(run, parcel, BB_S("grams"), &grams) == BB_OK)
-        printf("%.*s: %.*s, %" PRId64 " g\n", (int)name_len, name, (int)belt_len, belt, grams);
+    uint8_t looked = bb_text(run, parcel, BB_S("name"), (uint8_t *)name, NAME, &name_len);
+    if (looked == BB_OK)
+        looked = bb_label(run, parcel, BB_S("belt"), (uint8_t *)belt, NAME, &belt_len);
+    if (looked == BB_OK)
+        looked = bb_int(run, parcel, BB_S("grams"), &grams);
+    if (looked == BB_OK)
+        printf("%.*s: %.*s, %" PRId64 " g\n", shown(name_len), name, shown(belt_len), belt, grams);
+    return looked;
 }
 
 /* Answers for the native that is due: what lies on the scale has so many grams. Returns how the run stands then. */
@@ -78,9 +88,7 @@ static uint8_t parcel_comes(bb_run *run, const char *name, int64_t grams)
     while (stands == BB_GOING || stands == BB_DUE)
         stands = stands == BB_DUE ? weigh(run, grams) : bb_turn(run);
     skip_trace(run);
-    if (stands == BB_RESTING)
-        tell(run, unit);
-    return stands;
+    return stands == BB_RESTING ? tell(run, unit) : stands;
 }
 
 /* Writes the blackboard as a document of first units. Returns whether it could. */
