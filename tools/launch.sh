@@ -50,8 +50,8 @@ run_built() {
     exec "$program" "$@"
 }
 
-# Becomes the program of a release, where that is of the sources here.
-run_released() {
+# Prints the folder of a release of the sources here that has the program, and tells which it is, or why none is used.
+released() {
     local release=${RAILCITRON_RELEASE:-$root/release} commit sources
     [[ -n ${RAILCITRON_RELEASE-} || -e $release ]] || return 0
     if [[ ! -r $release/VERSION || ! -x $release/bin/$crate ]]; then
@@ -65,7 +65,14 @@ run_released() {
         return 0
     fi
     say "the release in $release answers: it was proved from these sources at commit $commit, not here"
-    exec "$release/bin/$crate" "$@"
+    echo "$release"
+}
+
+# Becomes the program of a release, where that is of the sources here.
+run_released() {
+    local release
+    release=$(released)
+    [[ -z $release ]] || exec "$release/bin/$crate" "$@"
 }
 
 # `rt try` ends a standard input that is silent for two seconds, so it is given a file, which is in `room`.
