@@ -20,7 +20,7 @@ ENVIRONMENT = ["env", "-i", "PATH=/usr/bin:/bin", "HOME=/tmp", "TMPDIR=/tmp", "L
 DEVICES = {"null": (1, 3), "full": (1, 7), "urandom": (1, 9)}
 SYSTEM = "/usr/sbin:/usr/bin:/sbin:/bin"
 # Files in the root are owned by who made it, so a name space of users serves those who are not root.
-BOUND = 'for it in null full urandom; do mount --bind "/dev/$it" "$0/dev/$it" || exit; done; exec chroot "$0" "$@"'
+BOUND = f'PATH={SYSTEM}; for it in {" ".join(DEVICES)}; do mount --bind "/dev/$it" "$0/dev/$it" || exit; done; exec chroot "$0" "$@"'
 
 
 def needed_by(files):
