@@ -43,6 +43,7 @@ class Library(unittest.TestCase):
                 asks.say("“said”")
                 asks.set(9, "count", 1)
             self.assertEqual((one, two, run.next), (1, 2, 3))
+            self.assertEqual((len(asks), asks.refused), (14, [(14, 1)]))
             told = run.read().splitlines()
             self.assertEqual(told[:3], ["post", "create 1 note", "create 2 note"])
             self.assertEqual(told[told.index("end post 14") - 2 :][:3], ['say "“said”"', "refused ask 14 1", "end post 14"])
@@ -52,6 +53,89 @@ class Library(unittest.TestCase):
             self.assertEqual(run.finish(), "finish quiescence\n")
             self.assertEqual(run.ending, "quiescence")
             self.assertRaises(railcitron.Misuse, run.turn)
+
+    def test_asks_that_are_refused(self):
+        with railcitron.Run(DATA) as run:
+            with run.post() as asks:
+                one = asks.new("note")
+                for ask, *passed in (
+                    (asks.new, "nope"),
+                    (asks.set, one, "nope", 1),
+                    (asks.link, one, "text", one),
+                    (asks.enter, one, "nope"),
+                    (asks.set, one, "hue", "green"),
+                ):
+                    self.assertRaises(railcitron.Refused, ask, *passed)
+                self.assertRaises(TypeError, asks.set, one, "count", "1")
+                asks.set(one, "text", 65535 * "a")
+                asks.say(65536 * "a")
+                asks.link(one, "next", 7)
+                asks.enter(one, "wall")
+            self.assertEqual([tuple(it) for it in asks.refused], [(3, 3), (4, 1)])
+            self.assertEqual(run.get(one, "text"), 65535 * "a")
+            with run.post() as asks:
+                asks.leave(one, "wall")
+            self.assertEqual(asks.refused, [])
+            lines = list(run.lines())
+            self.assertEqual([it for it in lines if it.startswith("refused")], ["refused ask 3 3", "refused ask 4 1"])
+            self.assertIn("end post 5", lines)
+
+    def test_a_label_that_is_read_is_written(self):
+        with railcitron.Run(DATA) as run:
+            with run.post() as asks:
+                one, two = asks.new("note"), asks.new("note")
+                asks.set(one, "hue", "blue")
+            with run.post() as asks:
+                asks.set(two, "hue", run.get(one, "hue"))
+            hue = run.get(two, "hue")
+            self.assertEqual((hue, hue.set, asks.refused), ("blue", "hue", []))
+
+    def test_units(self):
+        data = DATA.replace(b'"classes": [{', b'"classes": [{"name": "top"}, {"name": "low", "parent": "top"}, {')
+        with railcitron.Run(data) as run:
+            with run.post() as asks:
+                made = [asks.new(it) for it in ("note", "low", "top", "focus", "note")]
+            with run.post() as asks:
+                asks.delete(made[0])
+            self.assertEqual((list(run), made), ([2, 3, 4, 5], [1, 2, 3, 4, 5]))
+            self.assertEqual([it in run for it in (0, 1, 2, 6)], [False, False, True, False])
+
+    def test_many_units_and_a_long_text(self):
+        """What has no room in the buffers that a run keeps."""
+        with railcitron.Run(DATA) as run:
+            with run.post() as asks:
+                units = [asks.new("note") for _ in range(3000)]
+                for unit in units[::100]:
+                    asks.set(unit, "text", 65000 * "b")
+            self.assertEqual((run.units("note"), list(run)), (units, units))
+            self.assertEqual(run.get(units[100], "text"), 65000 * "b")
+            self.assertGreater(len(run.document()), 30 * 65000)
+            told = run.read()
+            self.assertEqual([told.count(it) for it in ("create ", "set ", "trigger ")], [3000, 30, 3000])
+
+    def test_no_post_while_a_native_is_due(self):
+        sources = "%sources\nsource count on note { when create note; rate 50; native; }\n"
+        with railcitron.Run((SCHEMA + sources).encode(), natives=["count"]) as run:
+            with run.post() as asks:
+                asks.new("note")
+            self.assertRaises(railcitron.Due, run.turn)
+            with self.assertRaises(railcitron.Due), run.post() as asks:
+                self.fail("a block that can't be posted was entered")
+            self.assertRaises(railcitron.Due, run.finish)
+            with run.answer() as asks:
+                asks.set(1, "count", 7)
+            self.assertRaises(railcitron.Misuse, run.answer)
+            with run.post() as asks:
+                asks.set(1, "seen", True)
+            self.assertEqual((run.get(1, "count"), run.get(1, "seen")), (7, True))
+
+    def test_a_run_that_is_full(self):
+        with railcitron.Run(DATA) as run:
+            with self.assertRaises(railcitron.Full), run.post() as asks:
+                for _ in range(65537):
+                    asks.new("note")
+            self.assertRaises(railcitron.Full, run.post)
+            self.assertEqual((run.finish()[-12:], run.ending), ("finish full\n", "full"))
 
     def test_looks(self):
         with railcitron.Run(DATA) as run:
@@ -94,9 +178,11 @@ class Library(unittest.TestCase):
 
     def test_natives(self):
         sources = "%sources\nsource count on note { when create note; rate 50; native; }\nsource later on note { when create note; rate 9; native; }\n"
-        with self.assertRaises(railcitron.Refused):
-            railcitron.Run((SCHEMA + sources).encode(), natives=["count"])
-        with railcitron.Run((SCHEMA + sources).encode(), natives=["count", "later"]) as run:
+        for natives, line in ((["count"], None), (["later"], "refused rule count 8"), ([], "refused rule count 8")):
+            with self.assertRaises(railcitron.Refused) as caught:
+                railcitron.Run((SCHEMA + sources).encode(), natives=natives)
+            self.assertEqual(caught.exception.line, line)
+        with railcitron.Run(SCHEMA + sources, natives={"count": None, "later": None}) as run:
 
             @run.native("count")
             def count(unit, asks):

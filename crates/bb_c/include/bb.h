@@ -82,8 +82,9 @@ static inline uint8_t bb_serve_nullable(const uint8_t *input, size_t input_len, 
    - The handle belongs to the caller, and what it points to belongs to the library, from `bb_open` to `bb_close`. A
      handle is initialized with BB_RUN_NONE, and only the library writes its fields. Of the copies of an open handle,
      only one is used. If an open handle is lost, its run leaks.
-   - No two arguments of a call overlap; this includes the handle. The library copies the bytes that you pass. No
-     pointer is null, even if it points to no bytes: `bb_bytes` replaces null.
+   - What a call writes to, including the handle, overlaps no other argument. What it only reads may overlap, as two
+     equal literals do. The library copies the bytes that you pass. No pointer is null, even if it points to no bytes:
+     `bb_bytes` replaces null.
    - A run stays on the thread that opened it, because references to its texts are counted without locks. Runs share
      nothing, so each thread can have its own. No call is made from a signal handler, or from the forked child of a
      process that has threads. */
@@ -104,8 +105,9 @@ typedef struct bb_run {
    activation. Every call can return these:
 
    - BB_REFUSED: the input, a name or a value is refused. Nothing was done.
-   - BB_MEMORY: memory ran out. If it ran out in this move or an earlier one, the run can only be read and closed. Any
-     other call did nothing, and may be tried again.
+   - BB_MEMORY: memory ran out. If it ran out in this move or an earlier one, the run can only be read and closed, and
+     the blackboard may be as it was in the middle of the move. After `bb_open` there is no run. Any other call did
+     nothing, and may be tried again.
    - BB_MISUSE: the run does not exist, or was finished; for `bb_open`, it is already open. Nothing was done. */
 enum {
     BB_OK = 0,      /* the call was made */
@@ -118,8 +120,9 @@ enum {
 
 /* Begins the run of an input, with no activation rated below `floor`: reports the initial units, and what the sources
    do about them. `natives` has the names of the natives, one a line, that sources may have: when such a source is to
-   act, its native is due, and the host answers. If the input is refused, `bb_serve` with a limit of 0 says why, except
-   that it refuses every source with `native`, because it has no natives. */
+   act, its native is due, and the host answers. Returns BB_GOING, even if nothing can be chosen, because only a turn
+   reports quiescence; or BB_FULL. If the input is refused, `bb_serve` with a limit of 0 says why, except that it refuses
+   every source with `native`, because it has no natives, and so does not get to what is wrong after such a source. */
 uint8_t bb_open(bb_run *run, const uint8_t *input, size_t input_len, const uint8_t *natives, size_t natives_len,
                 int64_t floor);
 
@@ -157,14 +160,15 @@ uint8_t bb_ask_say(bb_run *run, const uint8_t *text, size_t text_len);
 uint8_t bb_discard(bb_run *run);
 
 /* Posts the gathered asks: they are applied in order, and the sources respond to the changes. Then no asks are
-   gathered. If the run is over, or a native is due, nothing is applied. */
+   gathered. If the run is over, or a native is due, nothing is applied, and the asks are lost: call `bb_due` first. */
 uint8_t bb_post(bb_run *run);
 
 /* The unit on which a native is due, and the native's name. BB_NONE: no native is due. */
 uint8_t bb_due(bb_run *run, uint64_t *unit, uint8_t *to, size_t to_len, size_t *len);
 
 /* Answers for the native that is due with the gathered asks, perhaps none: they are applied in order, as if the native
-   had been called and had asked for them. Then no asks are gathered. If no native is due, nothing is applied. */
+   had been called and had asked for them. Then no asks are gathered. If no native is due, nothing is applied, and the
+   asks are lost. */
 uint8_t bb_answer(bb_run *run);
 
 /* The number that the next new unit gets, gathered asks not counted. 0: the run does not exist or was finished. */
@@ -208,9 +212,10 @@ uint8_t bb_creates(bb_run *run, uint8_t *creates);
    the trace can be read. */
 uint8_t bb_read(bb_run *run, uint8_t *to, size_t to_len, size_t *len);
 
-/* Ends a run, and adds its end to the trace: quiescence, or the limit if something could still be chosen. Returns how
-   the run ended: BB_DONE, BB_LIMIT, BB_FULL or BB_MEMORY. After that it can only be read and closed. BB_DUE: a native
-   is due, and the run is as it was. */
+/* Ends a run, and adds its end to the trace. It makes no cycle: if nothing can be chosen, it reports quiescence, unless
+   that was reported already; if something can be chosen then, the run ends by its limit. Returns how the run ended:
+   BB_DONE, BB_LIMIT, BB_FULL or BB_MEMORY. After that it can only be closed, or its trace be read: the blackboard is
+   gone. BB_DUE: a native is due, and the run is as it was. */
 uint8_t bb_finish(bb_run *run);
 
 /* Closes a run, finished or not, and frees all its memory. The handle is BB_RUN_NONE afterwards, and such a handle may
