@@ -21,6 +21,9 @@ Native = Callable[[int, Asks], object]
 Ending = Literal["quiescence", "limit", "full"]
 Given = TypeVar("Given", bound=Native)
 
+# The cycles that one call makes, at most.
+_SLICE = 1 << 10
+
 # The bytes of a name, at most.
 _NAME = 32
 
@@ -117,15 +120,20 @@ class Run(Held):
     def advance(self, cycles: int) -> bool:
         """Makes at most so many cycles, and then tells quiescence if nothing can be chosen. Returns whether the run goes on.
 
+        The library is called for some cycles at a time, which the trace does not show: Ctrl-C is heard between two calls,
+        and `made` tells then how many cycles there were. Nothing is heard during an execution.
+
         Raises what `turn` raises, and `OverflowError` if `cycles` is negative or not below 2^32.
         """
-        until = self.made + within(cycles, 0, 1 << 32)
-        stands = self._move("bb_advance", cycles)
-        while stands == calls.DUE:
+        left = within(cycles, 0, 1 << 32)
+        until = self.made + left
+        while True:
+            stands = self._move("bb_advance", min(left, _SLICE))
+            is_last = stands != calls.DUE and left <= _SLICE
             stands = self._answered(stands)
-            if stands == calls.GOING:
-                stands = self._move("bb_advance", until - self.made)
-        return self._goes_on(stands)
+            if stands != calls.GOING or is_last:
+                return self._goes_on(stands)
+            left = until - self.made
 
     def post(self) -> AbstractContextManager[Asks]:
         """What happened outside: a block of `with` that gathers asks, and posts them at its end. If the block raises, they

@@ -3,6 +3,7 @@
     RAILCITRON_LIBRARY=libbb.so python3 bindings/python/tests/test_library.py
 """
 
+import signal
 import sys
 import unittest
 from concurrent.futures import ThreadPoolExecutor
@@ -175,6 +176,51 @@ class Library(unittest.TestCase):
                 return told + run.finish()
 
         self.assertEqual({trace(it) for it in (1, 3, 7, 1000)}, {trace(2)})
+
+    def test_slices_of_cycles_show_nowhere(self):
+        """Each note makes another, by a source or by a native, until there are enough."""
+        grow = "when create note; rate 5; do { new made: note; } "
+        by_source = f"{SCHEMA}%sources\nsource grow on note {{ {grow}}}\n"
+        by_native = f"{SCHEMA}%sources\nsource grow on note {{ when create note; rate 5; native; }}\n"
+
+        def told(data, cycles, natives=()):
+            with railcitron.Run(data, natives=natives) as run:
+                with run.post() as asks:
+                    asks.new("note")
+                for it in cycles:
+                    self.assertTrue(run.advance(it))
+                self.assertEqual(run.made, sum(cycles))
+                return run.read()
+
+        for data, natives in ((by_source, ()), (by_native, {"grow": lambda unit, asks: asks.new("note")})):
+            whole = told(data, [5000], natives)
+            self.assertEqual(whole, told(data, 50 * [100], natives))
+            self.assertEqual((whole.count("\ncycle "), whole.count("\nquiescence\n")), (5000, 0))
+
+    def test_a_signal_is_heard(self):
+        class Stop(Exception):
+            pass
+
+        def stop(*_):
+            raise Stop
+
+        data = f"{SCHEMA}%sources\nsource grow on note {{ when create note; rate 5; do {{ new made: note; }} }}\n"
+        with railcitron.Run(data) as run:
+            with run.post() as asks:
+                asks.new("note")
+            before = signal.signal(signal.SIGALRM, stop)
+            try:
+                signal.setitimer(signal.ITIMER_REAL, 0.002)
+                run.advance(65000)
+                self.fail("no signal was heard")
+            except Stop:
+                made = run.made
+            finally:
+                signal.setitimer(signal.ITIMER_REAL, 0)
+                signal.signal(signal.SIGALRM, before)
+            self.assertLess(made, 65000)
+            self.assertTrue(run.advance(1))
+            self.assertEqual(run.made, made + 1)
 
     def test_natives(self):
         sources = "%sources\nsource count on note { when create note; rate 50; native; }\nsource later on note { when create note; rate 9; native; }\n"

@@ -412,6 +412,19 @@ class Natives(unittest.TestCase):
         called = [it for it in self.library.called if it[0] == "bb_advance"]
         self.assertEqual(called, [("bb_advance", 4), ("bb_advance", 3), ("bb_advance", 1)])
 
+    def test_cycles_are_made_in_slices(self):
+        for statuses, made, wanted in (
+            ([3, 3, 3], [5, 1029, 2053], [1024, 1024, 452]),
+            ([3, 0], [5, 1029], [1024, 1024]),
+            ([3, 8, 3, 3], [5, 1029, 1100, 2124], [1024, 1024, 1024, 381]),
+            ([8, 3], [0, 2500], [1024, 0]),
+        ):
+            due = [(7, "weigh")] if 8 in statuses else []
+            with self.run_of(due=due, bb_made=made, bb_advance=statuses, bb_answer=[3]) as run:
+                run.native("weigh")(lambda unit, asks: None)
+                self.assertEqual(run.advance(2500), statuses[-1] == 3)
+            self.assertEqual([it[1] for it in self.library.called if it[0] == "bb_advance"], wanted)
+
     def test_none_is_given(self):
         with self.run_of(due=[(7, "price")], bb_turn=[8], bb_finish=[8, 0], bb_answer=[3]) as run:
             with self.assertRaises(railcitron.Due) as caught:
