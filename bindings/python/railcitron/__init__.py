@@ -25,6 +25,7 @@ from ._asks import Asks, RefusedAsk
 from ._faults import Due, Fault, Full, Misuse, OutOfMemory, Refused
 from ._library import load
 from ._run import Ending, Native, Run
+from ._schema import Schema
 from ._values import Interval, Label, Value
 
 __version__ = "0.9.0"
@@ -43,6 +44,7 @@ __all__ = [
     "Refused",
     "RefusedAsk",
     "Run",
+    "Schema",
     "Value",
     "load",
 ]

@@ -84,6 +84,8 @@ class Run(Held):
         self._asks: Asks | None = None
         self._ending: Ending | None = None
         self._stands = calls.MISUSE
+        # Slots that were read, by their names. Another class may have another slot of a name, so labels are not among them.
+        self._kept: dict[str, Slot] = {}
         super().__init__(given, library)
         stands = self._call("bb_open", given, len(given), *as_bytes("\n".join(self._natives)), as_int(floor))
         if stands == calls.REFUSED:
@@ -265,20 +267,31 @@ class Run(Held):
 
         Raises `KeyError` if there is no such unit, or its class has no such slot; and what `class_of` raises.
         """
-        held = self._slot_of(unit, slot)
         at = (as_unit(unit), *as_bytes(slot))
+        kept = self._kept.get(slot)
+        if kept and (value := self._value(kept, at)) is not None:
+            return value
+        held = self._slot_of(unit, slot)
+        if held.of is None:
+            self._kept[slot] = held
+        if (value := self._value(held, at)) is None:
+            raise KeyError((unit, slot))
+        return value
+
+    def _value(self, held: Slot, at: tuple[int, bytes, int]) -> Value | None:
+        """What a slot of a unit holds, if it is such a slot."""
         low, high, truth = ctypes.c_int64(), ctypes.c_int64(), ctypes.create_string_buffer(1)
-        if held.kind == "int" and self._looked("bb_int", *at, ctypes.byref(low)):
-            return low.value
-        if held.kind == "bool" and self._looked("bb_bool", *at, truth):
-            return truth.raw != b"\0"
-        if held.kind == "interval" and self._looked("bb_interval", *at, ctypes.byref(low), ctypes.byref(high)):
-            return Interval(low.value, high.value)
-        if held.kind == "text" and (text := self._text("bb_text", *at)) is not None:
-            return text
-        if held.of and (label := self._text("bb_label", *at)) is not None:
-            return Label(held.of, label)
-        raise KeyError((unit, slot))
+        if held.kind == "int":
+            return low.value if self._looked("bb_int", *at, ctypes.byref(low)) else None
+        if held.kind == "bool":
+            return truth.raw != b"\0" if self._looked("bb_bool", *at, truth) else None
+        if held.kind == "interval":
+            is_there = self._looked("bb_interval", *at, ctypes.byref(low), ctypes.byref(high))
+            return Interval(low.value, high.value) if is_there else None
+        if held.kind == "text":
+            return self._text("bb_text", *at)
+        label = self._text("bb_label", *at)
+        return None if label is None or held.of is None else Label(held.of, label)
 
     def _slot_of(self, unit: int, slot: str) -> Slot:
         """An ordinary slot of a unit, as the schema declares it."""

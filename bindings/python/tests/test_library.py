@@ -91,6 +91,27 @@ class Library(unittest.TestCase):
             hue = run.get(two, "hue")
             self.assertEqual((hue, hue.set, asks.refused), ("blue", "hue", []))
 
+    def test_slots_of_one_name(self):
+        data = """%schema
+{"labels": [{"name": "hue", "values": ["red"]}, {"name": "mood", "values": ["red", "sad"]}],
+ "classes": [{"name": "a", "slots": [{"name": "it", "kind": "int"}, {"name": "of", "kind": "label", "of": "hue"}]},
+             {"name": "b", "slots": [{"name": "it", "kind": "text"}, {"name": "of", "kind": "label", "of": "mood"}]},
+             {"name": "c", "slots": [{"name": "it", "kind": "interval"}]},
+             {"name": "d", "slots": [{"name": "it", "kind": "bool"}]}, {"name": "e"}]}
+%sources
+"""
+        with railcitron.Run(data) as run:
+            with run.post() as asks:
+                units = [asks.new(it) for it in "abcde"]
+                for unit, value in zip(units, (7, "seven", Interval(7, 8), True)):
+                    asks.set(unit, "it", value)
+            for order in (units[:4], units[3::-1], units[:4]):
+                read = {it: run.get(it, "it") for it in order}
+                self.assertEqual((read, type(read[4])), ({1: 7, 2: "seven", 3: Interval(7, 8), 4: True}, bool))
+                self.assertEqual([run.get(it, "of").set for it in (1, 2, 1)], ["hue", "mood", "hue"])
+                self.assertRaises(KeyError, run.get, 5, "it")
+                self.assertRaises(KeyError, run.get, 6, "it")
+
     def test_units(self):
         data = DATA.replace(b'"classes": [{', b'"classes": [{"name": "top"}, {"name": "low", "parent": "top"}, {')
         with railcitron.Run(data) as run:
