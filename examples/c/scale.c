@@ -94,9 +94,8 @@ static uint8_t parcel_comes(bb_run *run, const char *name, int64_t grams)
 /* Writes the blackboard as a document of first units. Returns whether it could. */
 static int write_document(bb_run *run)
 {
-    uint8_t none;
     size_t len;
-    if (bb_document(run, &none, 0, &len) != BB_OK)
+    if (bb_document(run, bb_room(NULL), 0, &len) != BB_OK)
         return 0;
     uint8_t *text = malloc(len + 1);
     int is_there = text != NULL && bb_document(run, text, len, &len) == BB_OK;

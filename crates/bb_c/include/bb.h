@@ -84,7 +84,7 @@ static inline uint8_t bb_serve_nullable(const uint8_t *input, size_t input_len, 
      only one is used. If an open handle is lost, its run leaks.
    - What a call writes to, including the handle, overlaps no other argument. What it only reads may overlap, as two
      equal literals do. The library copies the bytes that you pass. No pointer is null, even if it points to no bytes:
-     `bb_bytes` replaces null.
+     `bb_bytes` and `bb_room` replace null.
    - A run stays on the thread that opened it, because references to its texts are counted without locks. Runs share
      nothing, so each thread can have its own. No call is made from a signal handler, or from the forked child of a
      process that has threads. */
@@ -121,7 +121,7 @@ enum {
 /* Begins the run of an input, with no activation rated below `floor`: reports the initial units, and what the sources
    do about them. `natives` has the names of the natives, one a line, that sources may have: when such a source is to
    act, its native is due, and the host answers. Returns BB_GOING, even if nothing can be chosen, because only a turn
-   reports quiescence; or BB_FULL. If the input is refused, `bb_serve` with a limit of 0 says why, except that it refuses
+   reports quiescence; or BB_FULL. If the input is refused, `bb_serve` with a limit of 0 says why, but it refuses
    every source with `native`, because it has no natives, and so does not get to what is wrong after such a source. */
 uint8_t bb_open(bb_run *run, const uint8_t *input, size_t input_len, const uint8_t *natives, size_t natives_len,
                 int64_t floor);
@@ -227,6 +227,14 @@ static inline const uint8_t *bb_bytes(const void *bytes)
 {
     static const uint8_t none = 0;
     return bytes == NULL ? &none : (const uint8_t *)bytes;
+}
+
+/* A pointer to room that is not null, even if there is no room: `bb_text(.., bb_room(NULL), 0, &len)` returns only the
+   length of a text. */
+static inline uint8_t *bb_room(void *room)
+{
+    static uint8_t none = 0;
+    return room == NULL ? &none : (uint8_t *)room;
 }
 
 #ifdef __cplusplus
