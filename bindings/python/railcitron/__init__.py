@@ -21,10 +21,12 @@ process; runs on several threads go on at once. Each call's documentation has wh
 `OutOfMemory`, the run can only be read and closed.
 """
 
+from . import notes
 from ._asks import Asks, RefusedAsk
 from ._faults import Due, Fault, Full, Misuse, OutOfMemory, Refused
 from ._library import load
-from ._run import Ending, Native, Run
+from ._looks import Ending
+from ._run import Native, Run
 from ._schema import Schema
 from ._values import Interval, Label, Value
 
@@ -47,4 +49,5 @@ __all__ = [
     "Schema",
     "Value",
     "load",
+    "notes",
 ]

@@ -12,7 +12,7 @@ from pathlib import Path
 sys.dont_write_bytecode = True
 sys.path.insert(0, str(Path(__file__).resolve().parent.parent))
 import railcitron  # noqa: E402
-from railcitron import Interval, Label  # noqa: E402
+from railcitron import Interval, Label, notes  # noqa: E402
 
 SCHEMA = """%schema
 {"labels": [{"name": "hue", "values": ["red", "blue"]}],
@@ -111,6 +111,20 @@ class Library(unittest.TestCase):
                 self.assertEqual([run.get(it, "of").set for it in (1, 2, 1)], ["hue", "mood", "hue"])
                 self.assertRaises(KeyError, run.get, 5, "it")
                 self.assertRaises(KeyError, run.get, 6, "it")
+
+    def test_notes(self):
+        with railcitron.Run(DATA) as run:
+            with run.post() as asks:
+                asks.new("note")
+                asks.delete(9)
+                asks.say('po"sters \\ \u2028 \x01')
+            told = [notes.Posting(), notes.Created(1, "note"), notes.AskRefused(2, 1), notes.Said(('po"sters \\ \u2028 \x01',))]
+            self.assertEqual([*run.notes()], [*told, notes.Posted(3), notes.Triggered(1, "hail", 1, 100)])
+            self.assertFalse(run.advance(9))
+            chosen, said, executed, rest = run.notes()
+            self.assertEqual((chosen, said, rest), (notes.Chosen(1, 1, "hail", 1, 100), notes.Said((notes.Unit(1),)), notes.Quiescence()))
+            self.assertIsInstance(executed, notes.Executed)
+            run.finish()
 
     def test_units(self):
         data = DATA.replace(b'"classes": [{', b'"classes": [{"name": "top"}, {"name": "low", "parent": "top"}, {')

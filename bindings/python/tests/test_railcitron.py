@@ -21,7 +21,7 @@ sys.dont_write_bytecode = True
 HOME = Path(__file__).resolve().parent.parent
 sys.path.insert(0, str(HOME))
 import railcitron  # noqa: E402
-from railcitron import Interval, Label, _library, _schema  # noqa: E402
+from railcitron import Interval, Label, _library, _schema, notes  # noqa: E402
 
 DATA = b"""%schema
 {"labels": [{"name": "state", "values": ["waiting", "done"]}, {"name": "hue", "values": ["red"]}],
@@ -471,6 +471,63 @@ class Values(unittest.TestCase):
         match label:
             case Label(names, name):
                 self.assertEqual((names, name, type(name)), ("hue", "red", str))
+
+
+class Notes(unittest.TestCase):
+    LINES = {
+        "create 12 job": notes.Created(12, "job"),
+        "set 1.name": notes.Set(1, "name"),
+        "link 1.next 2": notes.Linked(1, "next", 2),
+        "unlink 1.next 2": notes.Unlinked(1, "next", 2),
+        "enter 1 tray": notes.Entered(1, "tray"),
+        "leave 1 tray": notes.Left(1, "tray"),
+        "delete 1": notes.Deleted(1),
+        "trigger 3 begin unit 1 rating -5": notes.Triggered(3, "begin", 1, -5),
+        "decline begin unit 1": notes.Declined("begin", 1),
+        "obviate 3": notes.Obviated(3),
+        "retrigger 3 -5": notes.Retriggered(3, -5),
+        "cycle 7 act 3 begin unit 1 rating 10": notes.Chosen(7, 3, "begin", 1, 10),
+        "invalid 3": notes.Invalid(3),
+        "say": notes.Said(()),
+        'say -7 true [-1,2] #4 blue "a \\"b\\" \\\\ \\n #5"': notes.Said((-7, True, Interval(-1, 2), notes.Unit(4), notes.Name("blue"), 'a "b" \\ \n #5')),
+        "end steps 5 found 2 budget 9": notes.Executed(5, 2, 9),
+        "end native 2": notes.Answered(2),
+        "refused ask 2 6": notes.AskRefused(2, 6),
+        "post": notes.Posting(),
+        "end post 2": notes.Posted(2),
+        "quiescence": notes.Quiescence(),
+        "finish limit": notes.Finished("limit"),
+        "closed tally -1": notes.Closed("tally", -1),
+    }
+
+    def test_lines(self):
+        for line, note in self.LINES.items():
+            self.assertEqual((notes.parse(line), str(note)), (note, line))
+        kinds = {type(it) for it in self.LINES.values()}
+        self.assertEqual(kinds, {*notes.Note.__subclasses__()} - {notes.Other})
+
+    def test_values(self):
+        values = notes.parse('say 1 true blue "blue" #1').values
+        self.assertEqual([type(it) for it in values], [int, bool, notes.Name, str, notes.Unit])
+
+    def test_lines_of_no_trace(self):
+        lines = ["", "begin", "create 1", "create 1 job ", "create job 1", "post 1", "say  1", 'say "a', 'say "a"b', "say A", "says 1", "end", "set 1name"]
+        for line in lines:
+            self.assertEqual((notes.parse(line), str(notes.parse(line))), (notes.Other(line), line))
+
+    def test_traces_of_examples(self):
+        traces = sorted((HOME.parent.parent / "examples").glob("*.trace"))
+        self.assertGreater(len(traces), 5)
+        for line in (line for it in traces for line in it.read_text().split("\n")[:-1]):
+            self.assertEqual(str(notes.parse(line)), line)
+            self.assertNotIsInstance(notes.parse(line), notes.Other)
+
+    def test_a_line_that_is_cut(self):
+        with railcitron.Run(b"", library=Library([b"post\nset 1.na", b"", b"me\nend ", b""])) as run:
+            self.assertEqual([*run.notes()], [notes.Posting()])
+            self.assertEqual([*run.notes()], [notes.Set(1, "name")])
+            self.assertEqual([*run.notes()], [])
+            self.assertEqual(run.read(), "end ")
 
 
 class Schemas(unittest.TestCase):
