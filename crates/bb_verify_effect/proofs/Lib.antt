@@ -8,4 +8,5 @@ pub mod EdgeInversion
 -- what crates above use
 pub mod Laws
 pub mod StackLemmas
+pub mod KindLemmas
 pub mod PackedLemmas

@@ -2,7 +2,7 @@
 
 ghost use Rattle.std.specs.Prelude.{◌≡◌, ◌<◌, ◌≤◌, ◌+◌, ◌++◌, ◌∷◌, [], IfOk, OnErr, OnOk, Some, length, reverse, slice_get};
 ghost use Rattle.std.specs.Vec.{vec_capacity, vec_len};
-ghost use Rattle.bb_verify_effect.specs.proving.Packed.{Lies, frame_in};
+ghost use Rattle.bb_verify_effect.specs.proving.Packed.{Grows, Lies, frame_in, stretch_in};
 
 use crate::frame::Frame;
 use crate::frame_view::FrameView;
@@ -12,20 +12,28 @@ use bb_code::Kind;
 use std::alloc::{AllocError, Global};
 use std::marker::Model;
 
-// Where the kinds of a frame are stored: its locals from `start` to `middle`, its stack from `middle` to `end`, the
-// deepest entry first.
+// Where kinds are stored: from `start` to before `end`.
 #[derive(Clone, Copy)]
-struct Span {
+struct Stretch {
     start: usize,
-    middle: usize,
     end: usize,
 }
 
-/// The frames of places, in the order of the places. A frame takes only the space of its kinds.
+// Where the kinds of a frame are stored; of its stack the deepest entry first.
+#[derive(Clone, Copy)]
+struct Span {
+    locals: Stretch,
+    stack: Stretch,
+}
+
+/// The frames of places, in the order of the places. Most frames differ from the one before by the top of the stack, so
+/// a frame takes room only for the kinds that are not stored where those of the last one begin.
 #[derive(Drop)]
 pub struct PackedFrames {
     kinds: Vec<Kind>,
     spans: Vec<Span>,
+    // Where the last frame is stored; anywhere inside, if there is none.
+    last: Span,
 }
 
 impl Model for PackedFrames {
@@ -38,7 +46,7 @@ impl Model for PackedFrames {
 
     ghost view = { λ p. map (frame_in p.kinds.items) p.spans.items };
 
-    ghost invariant = { λ p. All (Lies (length p.kinds.items)) p.spans.items };
+    ghost invariant = { λ p. All (Lies (length p.kinds.items)) p.spans.items × Lies (length p.kinds.items) p.last };
 }
 
 // Appends kinds to a list that has capacity for them. They are few: copying them as one block would cost more.
@@ -53,9 +61,44 @@ fn add_kinds(kinds: &mut Vec<Kind>, more: &[Kind])
     }
 }
 
-// Appends the kinds of a frame and returns where they are stored. An error changes nothing.
-fn put_kinds(kinds: &mut Vec<Kind>, frame: &Frame) -> Result<Span, AllocError>
-    ensures ok { OnOk result (kinds.new.items ≡ kinds.old.items ++ (frame.now.locals ++ reverse frame.now.stack)) }
+// Stores kinds and returns where: at `near` if they are there already, or if what is there to the end begins them; else
+// after all others. The list has capacity for them.
+fn store(kinds: &mut Vec<Kind>, near: usize, more: &[Kind]) -> Stretch
+    requires room { vec_len kinds.old + length more.now ≤ vec_capacity kinds.old }
+    requires near { near ≤ length kinds.old.items }
+    ensures grows { Grows kinds.old.items kinds.new.items }
+    ensures len { vec_len kinds.new ≤ vec_len kinds.old + length more.now }
+    ensures capacity { vec_capacity kinds.new ≡ vec_capacity kinds.old }
+    ensures count { result.end ≡ result.start + length more.now }
+    ensures inside { result.end ≤ length kinds.new.items }
+    ensures stored { stretch_in kinds.new.items result ≡ more.now }
+{
+    let left = kinds.len() - near;
+    if more.len() <= left && &kinds[near..near + more.len()] == more {
+        return Stretch {
+            start: near,
+            end: near + more.len(),
+        };
+    }
+    if left < more.len() && &kinds[near..] == &more[..left] {
+        add_kinds(kinds, &more[left..]);
+        return Stretch {
+            start: near,
+            end: kinds.len(),
+        };
+    }
+    let start = kinds.len();
+    add_kinds(kinds, more);
+    Stretch {
+        start,
+        end: kinds.len(),
+    }
+}
+
+// Stores the kinds of a frame after another one, and returns where. An error changes nothing.
+fn put_kinds(kinds: &mut Vec<Kind>, last: Span, frame: &Frame) -> Result<Span, AllocError>
+    requires { Lies (length kinds.old.items) last }
+    ensures ok { OnOk result (Grows kinds.old.items kinds.new.items) }
     ensures err { OnErr result (kinds.new.items ≡ kinds.old.items) }
     ensures lies { IfOk result (Lies (length kinds.new.items)) }
     ensures frame { IfOk result (λ span. frame_in kinds.new.items span ≡ frame.now) }
@@ -63,14 +106,11 @@ fn put_kinds(kinds: &mut Vec<Kind>, frame: &Frame) -> Result<Span, AllocError>
     let locals = frame.locals.kinds();
     let entries = frame.stack.entries();
     kinds.reserve(locals.len() + entries.len())?;
-    let start = kinds.len();
-    add_kinds(kinds, locals);
-    let middle = kinds.len();
-    add_kinds(kinds, entries);
+    let of_locals = store(kinds, last.locals.start, locals);
+    let of_stack = store(kinds, last.stack.start, entries);
     Ok(Span {
-        start,
-        middle,
-        end: kinds.len(),
+        locals: of_locals,
+        stack: of_stack,
     })
 }
 
@@ -80,8 +120,8 @@ fn frame_in(kinds: &[Kind], span: Span) -> Frame
     ensures { result ≡ frame_in kinds.now span }
 {
     Frame {
-        locals: Locals::of(&kinds[span.start..span.middle]),
-        stack: Stack::of(&kinds[span.middle..span.end]),
+        locals: Locals::of(&kinds[span.locals.start..span.locals.end]),
+        stack: Stack::of(&kinds[span.stack.start..span.stack.end]),
     }
 }
 
@@ -91,8 +131,8 @@ fn view_in(kinds: &[Kind], span: Span) -> FrameView<'_>
     ensures { result ≡ frame_in kinds.now span }
 {
     FrameView::new(
-        &kinds[span.start..span.middle],
-        &kinds[span.middle..span.end],
+        &kinds[span.locals.start..span.locals.end],
+        &kinds[span.stack.start..span.stack.end],
     )
 }
 
@@ -101,9 +141,14 @@ impl PackedFrames {
     pub fn with_capacity(alloc: Global, places: usize) -> Result<PackedFrames, AllocError>
         ensures { IfOk result (λ frames. frames ≡ []) }
     {
+        let nothing = Stretch { start: 0, end: 0 };
         Ok(PackedFrames {
             kinds: Vec::with_capacity(alloc, places)?,
             spans: Vec::with_capacity(alloc, places)?,
+            last: Span {
+                locals: nothing,
+                stack: nothing,
+            },
         })
     }
 
@@ -113,8 +158,9 @@ impl PackedFrames {
         ensures err { OnErr result (self.new ≡ self.old) }
     {
         self.spans.reserve(1)?;
-        let span = put_kinds(&mut self.kinds, frame)?;
+        let span = put_kinds(&mut self.kinds, self.last, frame)?;
         self.spans.push_reserved(span);
+        self.last = span;
         Ok(())
     }
 
