@@ -5,4 +5,5 @@ pub mod NearLemmas
 pub mod NarrowLemmas
 pub mod WholeLemmas
 pub mod MovesLemmas
+pub mod ValueLemmas
 pub mod Laws

@@ -1,12 +1,11 @@
 //! The values that spaces are given when a slot of a unit is set. The board's state (bb_board) sets it.
 
-ghost use Rattle.std.specs.Prelude.{◌≡◌, ◌<◌, ◌^◌, IfOk, length, position, slice_set};
-ghost use Rattle.std.specs.Str.{bytes_eq};
+ghost use Rattle.std.specs.Prelude.{◌≡◌, ◌<◌, ◌^◌, IfOk, length, slice_set};
 ghost use Rattle.bb_query.specs.Moves.{reading, values_anew, moves_for};
 
 use bb_basis::{Items, Memory};
 use bb_pattern::DimValue;
-use bb_schema::{Dim, Schema, SlotId, SpaceId, UnitId, Value};
+use bb_schema::{Schema, SlotId, SpaceId, UnitId, Value};
 use bb_space::Spaces;
 use std::alloc::Global;
 
@@ -17,20 +16,12 @@ pub struct Setting<'a> {
     pub value: &'a Value,
 }
 
-// The index of the dimension with a name.
-fn place_of(dims: &[Dim], name: &str) -> Option<usize>
-    ensures { result ≡ position (λ d. bytes_eq d.name name.now) dims.now }
-{
-    dims.iter().position(|dim| dim.name.as_str() == name)
-}
-
 // The index of the dimension of a space that reads a slot.
 fn reading(schema: &Schema, slot: SlotId, space: SpaceId) -> Option<usize>
-    requires { space < length schema.now.spaces }
     ensures { result ≡ reading schema.now slot space }
 {
-    let name = schema.slot_name(slot)?;
-    place_of(schema.dims(space), name)
+    let place = (*schema.readings(slot).get(space as usize)?)?;
+    Some(place as usize)
 }
 
 // Values with another value at an index.
@@ -59,15 +50,15 @@ fn values_anew(
     set: &Setting,
     space: SpaceId,
 ) -> Result<Option<Items<DimValue>>, Memory>
-    requires told { space < length spaces.now.spaces }
-    requires space { space < length schema.now.spaces }
+    requires { space < length spaces.now.spaces }
     ensures { IfOk result (λ values.
         values ≡ values_anew schema.now spaces.now unit set.now.slot set.now.value.now space) }
 {
-    let Some(told) = spaces.values(space, unit) else {
+    // This comes first, since it looks up no unit.
+    let Some(place) = reading(schema, set.slot, space) else {
         return Ok(None);
     };
-    let Some(place) = reading(schema, set.slot, space) else {
+    let Some(told) = spaces.values(space, unit) else {
         return Ok(None);
     };
     let Some(new) = DimValue::of(set.value) else {
@@ -90,6 +81,9 @@ pub fn moves_of(
     ensures { IfOk result (λ moves. moves.items ≡ moves_for schema.now spaces.now unit set.now.slot set.now.value.now) }
 {
     let mut moves = Vec::new(alloc);
+    if schema.readings(set.slot).is_empty() {
+        return Ok(moves);
+    }
     let own = spaces.spaces_of(unit);
     for space in own {
         let values = values_anew(alloc, schema, spaces, unit, set, *space)?;

@@ -1,49 +1,46 @@
 //! The values of a unit on the dimensions of a space. The board gives them to the spaces, where queries read them.
 
-ghost use Rattle.std.specs.Prelude.{◌≡◌, ◌<◌, IfOk, IsTrue, length, map};
-ghost use Rattle.bb_query.specs.PresentValues.{value_on, values_on, present_values};
+ghost use Rattle.std.specs.Prelude.{◌≡◌, ◌<◌, IfOk, IsTrue, length, map, option_and_then};
+ghost use Rattle.bb_query.specs.PresentValues.{values_on, present_values};
 ghost use Rattle.bb_query.specs.Whole.{Admits, kind_on};
-ghost use Rattle.bb_pattern.specs.Values.{kind_of_operand};
+ghost use Rattle.bb_pattern.specs.Values.{dim_value_of, kind_of_operand};
 ghost use Rattle.bb_schema.specs.Schema.{dims_of};
-ghost use Rattle.bb_units.specs.Units.{is_live};
+ghost use Rattle.bb_units.specs.Units.{is_live, value_of};
 
 use bb_basis::{Items, Memory};
 use bb_pattern::DimValue;
-use bb_schema::{ClassId, Dim, Schema, SpaceId, UnitId};
+use bb_schema::{ClassId, Schema, SlotId, SpaceId, UnitId};
 use bb_units::Units;
 use std::alloc::Global;
 
-// The value of a unit of a class on a dimension: the value of the slot with the dimension's name.
-fn value_on(
-    schema: &Schema,
-    units: &Units,
-    unit: UnitId,
-    class: ClassId,
-    dim: &Dim,
-) -> Option<DimValue>
-    ensures { result ≡ value_on schema.now units.now unit class dim.now }
+// The value of a unit in a slot, as a dimension reads it. `None` without a slot.
+fn value_in(units: &Units, unit: UnitId, slot: Option<SlotId>) -> Option<DimValue>
+    ensures { result ≡ option_and_then (λ s. option_and_then dim_value_of (value_of units.now unit s)) slot }
 {
-    let slot = schema.slot(class, dim.name.as_str())?;
+    let slot = slot?;
     if !units.has(unit, slot) {
         return None;
     }
     DimValue::of(units.get(unit, slot))
 }
 
-// The values of a unit of a class on some dimensions, in order.
+// The values of a unit of a class on the dimensions of a space, in order.
 fn values_on(
     alloc: Global,
     schema: &Schema,
     units: &Units,
     unit: UnitId,
     class: ClassId,
-    dims: &[Dim],
+    space: SpaceId,
 ) -> Result<Items<DimValue>, Memory>
-    ensures { IfOk result (λ values. values ≡ values_on schema.now units.now unit class dims.now) }
+    requires { space < length schema.now.spaces }
+    ensures { IfOk result (λ values.
+        values ≡ values_on schema.now units.now unit class (dims_of schema.now space)) }
 {
     let mut values = Items::new(alloc);
-    for dim in dims {
-        let Some(value) = value_on(schema, units, unit, class, dim) else {
+    for dim in 0..schema.dims(space).len() {
+        let slot = schema.slot_read(class, space, dim);
+        let Some(value) = value_in(units, unit, slot) else {
             continue;
         };
         values.push(value)?;
@@ -70,5 +67,5 @@ pub fn values_of(
     schema.fits();
     units.fits();
     let class = units.class_of(unit);
-    values_on(alloc, schema, units, unit, class, schema.dims(space))
+    values_on(alloc, schema, units, unit, class, space)
 }

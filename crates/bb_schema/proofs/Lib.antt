@@ -15,3 +15,4 @@ pub mod HeirLemmas
 pub mod StrikeLemmas
 pub mod RelationLemmas
 pub mod StruckLemmas
+pub mod ReadingLemmas

@@ -81,7 +81,7 @@ made_row_of count passes = record {
 read : (row : List Bool) (n : ℕ) → n < length row → row_has row n ≡ get_or row n false
 read row n lt = made_number row n (get_or row n false) (slice_get-get_or row n false lt)
 
-marked_by : (row : List Bool) (m n : ℕ) (b : Bool) → n < length row → (m == n) ≡ b → row_has (set row m true) n ≡ (row_has row n || b)
+pub marked_by : (row : List Bool) (m n : ℕ) (b : Bool) → n < length row → (m == n) ≡ b → row_has (set row m true) n ≡ (row_has row n || b)
 marked_by row m n true lt same =
     let there : n < length (set row m true) = omega (arith, lt, length-set row m true) in
     let is = eqb-true m n same in

@@ -6,6 +6,8 @@ pub mod Couples
 pub mod Ownership
 -- which units a space admits
 pub mod Spaces
+-- which slots dimensions read
+pub mod Readings
 -- the slots of the built-in class
 pub mod Focus
 -- the properties of every schema

@@ -7,3 +7,7 @@ pub mod Lineage
 pub mod Relation
 -- the table of what a delete strikes
 pub mod Struck
+-- the tables of what dimensions read
+pub mod Readings
+-- a schema without spaces
+pub mod Bare

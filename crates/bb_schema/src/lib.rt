@@ -11,10 +11,12 @@
 //! - Cases: `schemas`, `documents`, `limits_of_documents`, `model-schemas`, `owning`; tests in bb_board_parts_tests.
 #![tactic(auto)]
 
+mod bare;
 mod couple;
 mod lineage;
 mod ownership;
 mod read;
+mod readings;
 mod relation;
 mod resolve;
 mod schema;

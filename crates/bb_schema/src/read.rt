@@ -11,12 +11,14 @@ ghost use Rattle.bb_schema.specs.Reading.{fault_of, bare_schema, schema_with_spa
 
 mod spaces;
 
+use crate::bare::BareSchema;
 use crate::couple::count_couples;
 use crate::lineage::Lineage;
+use crate::readings::Readings;
 use crate::resolve::resolve_slots;
 use crate::schema::Schema;
 use crate::struck::struck_table;
-use bb_basis::Table;
+use bb_basis::{Items, Table};
 use bb_schema_classes::{SchemaFault, SchemaFlaw, Walked, spans_of};
 use bb_schema_form::{Document, DocumentFault, SpaceEntry};
 use spaces::spaces_of;
@@ -63,6 +65,12 @@ fn bare_schema(alloc: Global, walked: Walked) -> Result<Schema, SchemaFault>
         couple_count,
         spans,
         struck,
+        // Without spaces, nothing reads a slot.
+        readings: Readings {
+            firsts: Items::new(alloc),
+            dims: Items::new(alloc),
+            rows: Items::new(alloc),
+        },
     })
 }
 
@@ -75,8 +83,11 @@ fn schema_with_spaces(
 ) -> Result<Schema, SchemaFault>
     ensures { Gives OutOfMemory (λ s. s) result (schema_with_spaces bare (map space_declaration entries.now)) }
 {
-    let spaces = spaces_of(alloc, &bare, entries)?;
-    Ok(bare.with_spaces(spaces))
+    let slots = BareSchema::of(alloc, &bare)?;
+    let spaces = spaces_of(alloc, &slots, entries)?;
+    let readings = Readings::of(alloc, &slots, spaces.as_slice())?;
+    drop(slots);
+    Ok(bare.with_spaces(spaces, readings))
 }
 
 // The schema that a document's entries declare. Their intervals must be in order, as `Document::read` ensures.

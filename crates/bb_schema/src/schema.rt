@@ -6,7 +6,7 @@ ghost use Rattle.bb_schema.specs.Schema.{class_named, space_named, label_set_nam
 ghost use Rattle.bb_schema.specs.Slots.{link_of};
 ghost use Rattle.bb_schema_classes.specs.Inheritance.{parent_of, Descends};
 ghost use Rattle.bb_schema.specs.Couples.{couples, couple_of};
-ghost use Rattle.bb_schema.specs.Fits.{Fits, AreSpaces};
+ghost use Rattle.bb_schema.specs.Fits.{Fits};
 ghost use Rattle.bb_schema_classes.specs.Values.{label_counts};
 ghost use Rattle.bb_schema_classes.specs.declared.read.labels.TheConstants.{LABEL_SET_LIMIT};
 ghost use Rattle.bb_schema_classes.specs.declared.read.classes.TheConstants.{CLASS_LIMIT};
@@ -16,6 +16,7 @@ ghost use Rattle.bb_schema.specs.Spaces.{classes_in, allowed, IsAllowed};
 
 use crate::couple::{CoupleId, Side, couple_end};
 use crate::lineage::Lineage;
+use crate::readings::Readings;
 use crate::slot::{Content, Slot, find_slot, link_at};
 use crate::space::{Dim, Space, SpaceId};
 use bb_basis::{Items, NAME_LIMIT, Table};
@@ -38,6 +39,8 @@ pub struct Schema {
     pub(crate) spans: Vec<Span>,
     /// For each class, a row with the classes of units that a delete of its units may delete. `None` if no slot owns.
     pub(crate) struck: Option<Items<Items<bool>>>,
+    /// What the dimensions of the spaces read.
+    pub(crate) readings: Readings,
 }
 
 impl Model for Schema {
@@ -59,7 +62,7 @@ impl Model for Schema {
       classes = s.classes;
       slots = s.slots.items;
       spaces = s.spaces;
-    }) s.couples_before.items s.couple_count s.spans.items s.struck };
+    }) s.couples_before.items s.couple_count s.spans.items s.struck s.readings };
 }
 
 // By hand, so that proofs see a drop as one call, not one per part.
@@ -74,6 +77,7 @@ impl Drop for Schema {
             couple_count: _,
             spans: _,
             struck: _,
+            readings: _,
         } = self;
     }
 }
@@ -359,16 +363,6 @@ impl Schema {
             None => false,
             Some(found) => self.descends_from_any(class, found.classes.as_slice()),
         }
-    }
-
-    /// Returns the schema with these spaces instead of its own.
-    pub(crate) fn with_spaces(self, spaces: Table<Space>) -> Schema
-        requires { AreSpaces self spaces }
-        ensures { result ≡ record self { spaces = spaces } }
-    {
-        let mut schema = self;
-        schema.spaces = spaces;
-        schema
     }
 
     /// Does nothing, but shows proofs what holds of every schema. Class 0 is `focus`. Label sets, labels, classes,

@@ -49,11 +49,11 @@ fn owned_classes(
         .collect(alloc)
 }
 
-// Adds a class to a row.
-fn mark(row: &mut Vec<bool>, class: ClassId)
-    ensures { row.new.items ≡ marked row.old.items class }
+/// Adds a number to a row.
+pub(crate) fn mark(row: &mut Vec<bool>, number: usize)
+    ensures { row.new.items ≡ marked row.old.items number }
 {
-    if let Some(place) = row.get_mut(class as usize) {
+    if let Some(place) = row.get_mut(number) {
         *place = true;
     }
 }
@@ -76,7 +76,7 @@ fn first_row(
 {
     let mut row = own_row(alloc, count, class)?;
     for to in owned {
-        mark(&mut row, *to);
+        mark(&mut row, *to as usize);
     }
     Ok(row)
 }

@@ -118,7 +118,7 @@ any_below true o b h = refl
 any_below false None b h = h
 any_below false (Some i) b h = h
 
-any_spot : {X : Type 0} (p : X → Bool) (xs : List X) → is_some (spot p xs) ≡ list_any p xs
+pub any_spot : {X : Type 0} (p : X → Bool) (xs : List X) → is_some (spot p xs) ≡ list_any p xs
 any_spot p [] = refl
 any_spot p (x ∷ xs) = any_below (p x) (spot p xs) (list_any p xs) (any_spot p xs)
 

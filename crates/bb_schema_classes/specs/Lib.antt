@@ -28,6 +28,8 @@ pub mod LinkReading
 pub mod ClassReading
 -- links with numbers instead of names
 pub mod Resolution
+-- names told by the first slots that have them
+pub mod Firsts
 -- the result of a walk over label sets and classes
 pub mod Walk
 -- the properties of every result of a walk

@@ -5,6 +5,7 @@
 mod class;
 mod draft;
 mod fault;
+mod firsts;
 mod kind;
 mod label_set;
 mod read;
@@ -15,8 +16,11 @@ pub use bb_schema_form::{DocumentPlace, ListItem, ListKey};
 pub use class::{Class, ClassId, parent};
 pub use draft::{Draft, DraftContent, LinkDraft, SLOT_LIMIT, SchemaDraft};
 pub use fault::{SchemaFault, SchemaFlaw, placed};
+pub use firsts::{copy_of, row_if, slot_among};
 pub use kind::{Kind, Link, SlotId};
 pub use label_set::{LabelId, LabelSet, LabelSetId, Labels};
-pub use read::{CLASS_LIMIT, LABEL_SET_LIMIT, Walked, resolve_link};
+pub use read::{
+    CLASS_LIMIT, LABEL_SET_LIMIT, NamedEntry, Walked, first_places, indexed_place, resolve_link,
+};
 pub use span::{Span, span_at, spans_of};
 pub use value::{TEXT_LIMIT, Value};

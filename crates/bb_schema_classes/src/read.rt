@@ -25,6 +25,7 @@ use bb_schema_form::{ClassEntry, LabelSetEntry};
 pub use classes::CLASS_LIMIT;
 use classes::classes_of;
 use focus::with_focus;
+pub use index::{NamedEntry, first_places, indexed_place};
 pub use labels::LABEL_SET_LIMIT;
 use labels::label_sets_of;
 pub use resolve::resolve_link;

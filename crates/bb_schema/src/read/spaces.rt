@@ -8,11 +8,14 @@ ghost use Rattle.bb_schema_classes.specs.declared.fault.SchemaFault.TheVariants.
 ghost use Rattle.bb_schema_form.specs.declared.place.ListKey.TheVariants as lists;
 ghost use Rattle.bb_schema_classes.specs.Faults.{inside};
 ghost use Rattle.bb_schema.specs.SpaceReading.{space_class_after, suits, has_slot_for, set_number, dim_after, space_after};
+ghost use Rattle.bb_schema.specs.proving.Readings.{has_slot_at};
 
-use crate::schema::Schema;
+use crate::bare::BareSchema;
 use crate::space::{Dim, Space};
 use bb_basis::{IdSet, Table, Text, is_name};
-use bb_schema_classes::{ClassId, Kind, LabelSetId, ListKey, SchemaFault, SchemaFlaw, placed};
+use bb_schema_classes::{
+    ClassId, Kind, LabelSetId, ListKey, SchemaFault, SchemaFlaw, placed,
+};
 use bb_schema_form::{DimEntry, SpaceEntry};
 use std::alloc::Global;
 
@@ -23,10 +26,11 @@ pub(crate) const SPACE_LIMIT: usize = 256;
 pub(crate) const DIM_LIMIT: usize = 16;
 
 #[tactic(auto, unfolding(crate::specs::SpaceReading::space_class_after, bb_schema_classes::specs::Inheritance::is_among))]
-fn add_space_class(schema: &Schema, listed: &mut IdSet, name: &str) -> Result<(), SchemaFault>
+fn add_space_class(schema: &BareSchema, listed: &mut IdSet, name: &str) -> Result<(), SchemaFault>
     ensures { Gives OutOfMemory (λ _. listed.new) result (space_class_after schema.now listed.old name.now) }
 {
     let class = schema
+        .get()
         .class(name)
         .ok_or(SchemaFault::here(SchemaFlaw::Unknown))?;
     if listed.contains(class) {
@@ -36,7 +40,7 @@ fn add_space_class(schema: &Schema, listed: &mut IdSet, name: &str) -> Result<()
     Ok(())
 }
 
-fn space_classes_of(alloc: Global, schema: &Schema, names: &[String]) -> Result<IdSet, SchemaFault>
+fn space_classes_of(alloc: Global, schema: &BareSchema, names: &[String]) -> Result<IdSet, SchemaFault>
     ensures { Gives OutOfMemory (λ listed. listed) result
         (try_fold_at (inside lists.Classes) (space_class_after schema.now) 0 [] (map string_bytes names.now)) }
 {
@@ -64,34 +68,58 @@ fn suits(set: Option<LabelSetId>, kind: Kind) -> bool
     }
 }
 
-#[tactic(auto, unfolding(crate::specs::SpaceReading::has_slot_for))]
-fn has_slot_for(schema: &Schema, name: &str, set: Option<LabelSetId>, class: ClassId) -> bool
-    ensures { result ≡ has_slot_for schema.now name.now set class }
+// Whether a class has a slot for a dimension, of which the first slot with its name is known.
+#[tactic(auto, unfolding(crate::specs::proving::Readings::has_slot_at))]
+fn has_slot_at(
+    schema: &BareSchema,
+    first: Option<usize>,
+    set: Option<LabelSetId>,
+    class: ClassId,
+) -> bool
+    ensures { result ≡ has_slot_at schema.now first set class }
 {
-    match schema.slot(class, name) {
+    match schema.slot(class, first) {
         None => false,
-        Some(slot) => match schema.kind_at(slot) {
+        Some(slot) => match schema.get().kind_at(slot) {
             None => false,
             Some(kind) => suits(set, kind),
         },
     }
 }
 
-fn have_slots_for(schema: &Schema, name: &str, set: Option<LabelSetId>, listed: &[ClassId]) -> bool
-    ensures { result ≡ list_all (has_slot_for schema.now name.now set) listed.now }
+fn have_slots_at(
+    schema: &BareSchema,
+    first: Option<usize>,
+    set: Option<LabelSetId>,
+    listed: &[ClassId],
+) -> bool
+    ensures { result ≡ list_all (has_slot_at schema.now first set) listed.now }
 {
     listed
         .iter()
-        .all(|class| has_slot_for(schema, name, set, *class))
+        .all(|class| has_slot_at(schema, first, set, *class))
 }
 
-fn set_number(schema: &Schema, of: &Option<String>) -> Result<Option<LabelSetId>, SchemaFault>
+// The name is looked up once, not for each class.
+fn have_slots_for(
+    schema: &BareSchema,
+    name: &str,
+    set: Option<LabelSetId>,
+    listed: &[ClassId],
+) -> bool
+    ensures { result ≡ list_all (has_slot_for schema.now name.now set) listed.now }
+{
+    have_slots_at(schema, schema.first(name), set, listed)
+}
+
+fn set_number(schema: &BareSchema, of: &Option<String>) -> Result<Option<LabelSetId>, SchemaFault>
     ensures { result ≡ set_number schema.now (option_map string_bytes of.now) }
 {
     match of {
         None => Ok(None),
         Some(name) => {
             let set = schema
+                .get()
                 .label_set(name.as_str())
                 .ok_or(SchemaFault::here(SchemaFlaw::Unknown))?;
             Ok(Some(set))
@@ -102,7 +130,7 @@ fn set_number(schema: &Schema, of: &Option<String>) -> Result<Option<LabelSetId>
 #[tactic(auto, unfolding(crate::specs::SpaceReading::dim_after))]
 fn add_dim(
     alloc: Global,
-    schema: &Schema,
+    schema: &BareSchema,
     listed: &[ClassId],
     dims: &mut Table<Dim>,
     entry: &DimEntry,
@@ -131,7 +159,7 @@ fn add_dim(
 
 fn dims_of(
     alloc: Global,
-    schema: &Schema,
+    schema: &BareSchema,
     listed: &[ClassId],
     entries: &[DimEntry],
 ) -> Result<Table<Dim>, SchemaFault>
@@ -152,7 +180,7 @@ fn dims_of(
 #[tactic(auto, unfolding(crate::specs::SpaceReading::space_after))]
 fn add_space(
     alloc: Global,
-    schema: &Schema,
+    schema: &BareSchema,
     spaces: &mut Table<Space>,
     entry: &SpaceEntry,
 ) -> Result<(), SchemaFault>
@@ -186,7 +214,7 @@ fn add_space(
 /// Returns the spaces of all entries, for a schema that has none yet, or the first fault.
 pub(crate) fn spaces_of(
     alloc: Global,
-    schema: &Schema,
+    schema: &BareSchema,
     entries: &[SpaceEntry],
 ) -> Result<Table<Space>, SchemaFault>
     ensures { Gives OutOfMemory (λ spaces. spaces) result

@@ -1,4 +1,5 @@
-//! Indexes of named entries, which find an entry without a scan. `entries.rt` keeps them.
+//! Indexes of named entries, which find an entry without a scan. `entries.rt` keeps them, and bb_schema makes one of the
+//! slots of a schema.
 
 ghost use Rattle.std.specs.Prelude.{◌≡◌, ℕ, List, ◌∷◌, [], ◌++◌, length, map, is_some, IfOk, OnOk};
 ghost use Rattle.bb_schema_classes.specs.proving.Entries.{indexed_place, IsIndex};
@@ -8,11 +9,12 @@ use std::alloc::{AllocError, Global};
 use std::collections::BTreeMap;
 
 /// An entry that has a name.
-pub(crate) trait NamedEntry {
+pub trait NamedEntry {
     ghost use Rattle.std.specs.Prelude.{List, ℕ};
 
     ghost name_of: { Self → List ℕ };
 
+    /// Returns the name.
     fn name(&self) -> &str
         ensures { result.now ≡ name_of self.now };
 }
@@ -65,7 +67,7 @@ fn keep_first<'a>(
 
 /// Returns the place of the first entry with each name. The index is ordered by name instead of hashed, so that no
 /// choice of names makes it slow.
-pub(crate) fn first_places<'a, T: NamedEntry>(
+pub fn first_places<'a, T: NamedEntry>(
     alloc: Global,
     entries: &'a [T],
 ) -> Result<BTreeMap<&'a str, usize>, AllocError>
@@ -79,7 +81,7 @@ pub(crate) fn first_places<'a, T: NamedEntry>(
 }
 
 /// Returns the place of the first entry with a name, if there is one.
-pub(crate) fn indexed_place(places: &BTreeMap<&str, usize>, name: &str) -> Option<usize>
+pub fn indexed_place(places: &BTreeMap<&str, usize>, name: &str) -> Option<usize>
     ensures { result ≡ indexed_place places.now name.now }
 {
     places.get(name).copied()

@@ -12,13 +12,7 @@ loop-space-init c =
     ∙ (ap (filter_map (λ space. option_map (λ values. (space, values)) (anew space))) c.spaces_of-own.ensures
     ∙ own_moves c.args.schema.now c.args.spaces.now c.args.unit c.args.set.now.slot c.args.set.now.value.now)
 
-pub values_anew-requires-clause-told : goal.values_anew-requires-clause-told
-values_anew-requires-clause-told c =
+pub values_anew-requires : goal.values_anew-requires
+values_anew-requires c =
     subst (λ own. c.loop-space.space-index < length own → get_or own c.loop-space.space-index 0 < length c.args.spaces.now.spaces) (sym c.spaces_of-own.ensures)
     (space_within c.args.spaces.now c.args.unit c.loop-space.space-index 0) c.loop-space-test.true
-
-pub values_anew-requires-clause-space : goal.values_anew-requires-clause-space
-values_anew-requires-clause-space c =
-    subst (λ n. get_or c.spaces_of-own.result.now c.loop-space.space-index 0 < n) c.requires.spaces
-    (subst (λ own. c.loop-space.space-index < length own → get_or own c.loop-space.space-index 0 < length c.args.spaces.now.spaces) (sym c.spaces_of-own.ensures)
-    (space_within c.args.spaces.now c.args.unit c.loop-space.space-index 0) c.loop-space-test.true)

@@ -14,5 +14,5 @@ returns-clause-whole c =
     let u = c.args.units.now in
     let n = c.args.unit in
     let w = c.args.space in
-    let present : values_on s u n c.class_of-class.result c.dims.result.now ≡ present_values s u n w = ap (values_on s u n c.class_of-class.result) c.dims.ensures ∙ sym (ap (λ o. option_map_or (λ class. values_on s u n class (dims_of s w)) o []) c.class_of-class.ensures) in
+    let present : values_on s u n c.class_of-class.result (dims_of s w) ≡ present_values s u n w = sym (ap (λ o. option_map_or (λ class. values_on s u n class (dims_of s w)) o []) c.class_of-class.ensures) in
     IfOk-weaker c.values_on.result _ _ (λ values is admits. ap (map kind_of_operand) (is ∙ present) ∙ whole s c.fits.ensures u n w c.fits-2.ensures c.requires.live admits) c.values_on.ensures

@@ -1,4 +1,4 @@
-use Rattle.std.proofs.Common.{◌≡◌, ◌≤◌, ◌∙◌, ◌⊎◌, inl, inr, Result, Ok, Err, List, length, ap, sym, subst}
+use Rattle.std.proofs.Common.{◌≡◌, ◌≤◌, ◌∙◌, ◌⊎◌, inl, inr, Result, Ok, Err, List, [], length, ap, sym, subst}
 use Rattle.std.proofs.lemmas.Result.{err_from_is_err_and}
 use Rattle.bb_schema_classes.specs.declared.class.Class.{Class}
 use Rattle.bb_schema_classes.specs.declared.fault.SchemaFault.TheVariants.{Memory}
@@ -11,6 +11,7 @@ use Rattle.bb_schema.specs.proving.WellFormed.{IsStruck}
 use Rattle.bb_schema.proofs.OwnershipLemmas.{table_struck}
 use Rattle.bb_schema.proofs.LinkLemmas.{links_are_there}
 use Rattle.bb_schema.proofs.SchemaFitLemmas.{bare_fits, few_resolved}
+use Rattle.bb_schema.proofs.ReadingLemmas.{nothing_read}
 use Rattle.bb_schema.proofs.read.bare_schema.Goals as goal
 
 pub count_couples-requires : goal.count_couples-requires
@@ -20,12 +21,13 @@ pub invariant_of-result : goal.invariant_of-result
 invariant_of-result c =
     let fits = bare_fits c.args.walked c.in_ok-slots.slots.items c.requires (rw c.as_slice.ensures at c.in_ok-slots.ensures) in
     let made = c.in_ok-struck.ensures ∙ (ap (λ (ks : List Class). struck_table ks c.deref-2.result.now) (c.new.ensures ∙ c.as_slice-3.ensures) ∙ ap (λ (ts : List Slot). struck_table c.args.walked.draft.classes ts) c.deref-2.ensures.value) in
-    rw c.new-2.ensures (record {
+    rw (c.new-2.ensures, c.new-3.ensures, c.new-4.ensures, c.new-5.ensures) (record {
       fits = fits;
       counted = c.in_ok-couples_before.ensures.before ∙ ap (counts 0 0) c.deref.ensures.value;
       all = c.in_ok-couples_before.ensures.all ∙ ap (λ (ts : List Slot). length (firsts 0 ts)) c.deref.ensures.value;
       told = rw c.as_slice-2.ensures at c.in_ok-spans.ensures;
       struck = subst (IsStruck _) (sym made) (table_struck _ fits);
+      readings = nothing_read (record { label_sets = c.args.walked.label_sets; classes = c.args.walked.draft.classes; slots = c.in_ok-slots.slots.items; spaces = [] });
     })
 
 pub spans_of-requires : goal.spans_of-requires
