@@ -1,14 +1,12 @@
 //! Asks the codes of a source. reacting.rt and triggering.rt ask about events, and execution.rt about the chosen
-//! activation, whose act it executes by `attempt`.
+//! activation.
 
-ghost use Rattle.std.specs.Prelude.{◌≡◌, ◌≤◌, IfOk};
-ghost use Rattle.bb_verify.specs.declared.checked.TheConstants.{FOUND_LIMIT};
+ghost use Rattle.std.specs.Prelude.{◌≡◌, IfOk};
 ghost use Rattle.bb_run.specs.Asking.{attempt, entry_of, reply_by};
 ghost use Rattle.bb_run.specs.Serving.{CanExecute};
-ghost use Rattle.bb_run.specs.Emitting.{Attempts, Replies};
+ghost use Rattle.bb_run.specs.Emitting.{Replies};
 
-use bb_exec::{Answer, Entry, Outcome, Stop, exec};
-use bb_exec_lower::Lowered;
+use bb_exec::{Answer, Entry, Stop, exec};
 use bb_schema::UnitId;
 use bb_trace::{Board, End, Question};
 use std::alloc::{AllocError, Global};
@@ -28,20 +26,6 @@ pub(crate) fn entry_of(it: UnitId, ev: Option<UnitId>) -> Entry
     Entry { it, ev }
 }
 
-/// Executes a code for an entry. The errors: no unit can be created, or out of memory.
-pub(crate) fn attempt(
-    alloc: Global,
-    code: &Lowered,
-    entry: Entry,
-    board: &mut Board,
-) -> Result<Outcome, Stop>
-    requires begins { CanExecute code.now entry board.old }
-    ensures attempted { Attempts (attempt code.now.code entry board.old) result board.new }
-    ensures few { IfOk result (λ o. o.found ≤ FOUND_LIMIT) }
-{
-    exec(alloc, code, board, entry)
-}
-
 /// Asks a question. The blackboard stays unchanged. The error: out of memory.
 pub(crate) fn ask(
     alloc: Global,
@@ -55,7 +39,7 @@ pub(crate) fn ask(
 {
     // For the proof: a question only reads.
     code.fits();
-    match attempt(alloc, code.lowered(), entry, board) {
+    match exec(alloc, code.lowered(), board, entry) {
         Ok(outcome) => Ok(Reply::Answer(outcome.answer)),
         Err(Stop::Full { .. }) => Ok(Reply::Over(End::FULL)),
         Err(Stop::Memory) => Err(AllocError),

@@ -11,12 +11,12 @@ ghost use Rattle.bb_run.specs.Seen.{seen};
 ghost use Rattle.bb_run.specs.Serving.{CanExecute};
 ghost use Rattle.bb_run.specs.Emitting.{IsResponse, Validates};
 
-use crate::asking::{Reply, ask, attempt, entry_of};
+use crate::asking::{Reply, ask, entry_of};
 use crate::calling::call;
 use crate::noting::take_noted;
 use crate::state::State;
 use bb_agenda::Activation;
-use bb_exec::{Answer, Stop};
+use bb_exec::{Answer, Stop, exec};
 use bb_exec_lower::Lowered;
 use bb_trace::{Act, Board, End, NativeSource, Note, Question, Source};
 use std::alloc::{AllocError, Global};
@@ -146,7 +146,7 @@ fn execute_code<N: NativeSource>(
         notes.old.items notes.new.items (seen N.meaning state.new)) }
 {
     let entry = entry_of(activation.unit, None);
-    match attempt(*notes.allocator(), code, entry, &mut state.board) {
+    match exec(*notes.allocator(), code, &mut state.board, entry) {
         Ok(outcome) => {
             let ended = Note::Ended {
                 steps: outcome.steps,

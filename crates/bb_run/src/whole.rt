@@ -9,7 +9,7 @@ ghost use Rattle.bb_trace.specs.Page.{stopped_by_write};
 ghost use Rattle.bb_trace.specs.TraceText.{trace_text};
 ghost use Rattle.bb_run.specs.Causes.{LacksNative};
 ghost use Rattle.bb_run.specs.Finish.{WritesFront, end_of, is_write};
-ghost use Rattle.bb_run.specs.Run.{run, start, unfinished};
+ghost use Rattle.bb_run.specs.Run.{run, start};
 ghost use Rattle.bb_run.specs.Turns.{settled};
 ghost use Rattle.bb_run.specs.Knowing.{Knows, MayKnow};
 ghost use Rattle.bb_run.specs.Seen.{seen};
@@ -46,30 +46,6 @@ impl<O: Out> Runner<'_, O> {
         self.report(plan, &notes, None, state)
     }
 
-    // Makes the whole run except for its last segment.
-    fn run_unfinished<N: NativeSource>(
-        &mut self,
-        plan: &Plan,
-        limit: u64,
-        state: &mut State<N>,
-    ) -> Result<End, Halt>
-        requires open { O.has_failed self.old.out.now ≡ false }
-        requires new { state.old.agenda ≡ first_agenda plan.now state.old.board }
-        requires may { MayKnow plan.now state.old.board }
-        requires serves { MayServe plan.now state.old.board }
-        ensures same { Same self.old self.new }
-        ensures made { Finishes plan.now (at O.taken self.old) (at O.taken self.new)
-            (unfinished plan.now state.old.board (map N.meaning state.old.roster.natives.items) limit)
-            (seen N.meaning state.new) result }
-        ensures failed { O.has_failed self.new.out.now ≡ stopped_by_write result }
-    {
-        if let Some(end) = self.begin(plan, state)? {
-            return Ok(end);
-        }
-        let mut made = 0;
-        self.make_cycles(plan, &mut made, limit, state)
-    }
-
     // Makes the whole run and writes all of its text. Every native is closed, also if the run is cut short; returns the
     // end and the blackboard that is left.
     fn make_run<N: NativeSource>(
@@ -93,7 +69,14 @@ impl<O: Out> Runner<'_, O> {
         ensures failed { O.has_failed self.new.out.now ≡ stopped_by_write result.0 }
     {
         let mut state = state;
-        let made = self.run_unfinished(plan, limit, &mut state);
+        let made = match self.begin(plan, &mut state) {
+            Ok(None) => {
+                let mut cycles = 0;
+                self.make_cycles(plan, &mut cycles, limit, &mut state)
+            }
+            Ok(Some(end)) => Ok(end),
+            Err(halt) => Err(halt),
+        };
         let (closed, board) = state.close();
         (self.end_by(plan, made, closed), board)
     }
@@ -188,37 +171,6 @@ pub fn first_state<N: NativeSource>(
     }
 }
 
-// Makes the whole run and writes all of its text; returns its end and the blackboard that it leaves.
-fn write_run<N: NativeSource, O: Out>(
-    alloc: Global,
-    plan: &Plan,
-    start: Start<N>,
-    limit: u64,
-    out: &mut O,
-) -> Result<(End, Board), Halt>
-    requires open { O.has_failed out.old ≡ false }
-    requires serves { MayServe plan.now start.board }
-    ensures end { IfOk result (λ r.
-        (run plan.now start.board (map N.meaning start.roster.natives.items) limit).end ≡ Some r.0) }
-    ensures board { IfOk result (λ r.
-        r.1 ≡ (run plan.now start.board (map N.meaning start.roster.natives.items) limit).state.board) }
-    ensures written { Writes plan.now (O.taken out.old) (O.taken out.new)
-        (run plan.now start.board (map N.meaning start.roster.natives.items) limit).emitted result }
-    ensures failed { O.has_failed out.new ≡ stopped_by_write result }
-{
-    let state = first_state(alloc, plan, start)?;
-    let mut page = Page::new(alloc);
-    let mut runner = Runner {
-        page: &mut page,
-        out,
-    };
-    let (ended, board) = runner.make_run(plan, limit, state);
-    match ended {
-        Ok(end) => Ok((end, board)),
-        Err(halt) => Err(halt),
-    }
-}
-
 /// Runs a blackboard from its first state as `run` does; returns how the run ended and the blackboard that it leaves.
 /// `Memory`: memory ran out. `Write`: the output failed.
 pub fn run_to_end<N: NativeSource, O: Out>(
@@ -245,8 +197,15 @@ pub fn run_to_end<N: NativeSource, O: Out>(
     let _ = plan.sources();
     // For the proof: the invariant of the blackboard.
     start.board.fits();
-    match write_run(alloc, plan, start, u64::from(limit), out) {
-        Ok((end, board)) => Ok((Finish::of(end), board)),
+    let state = first_state(alloc, plan, start)?;
+    let mut page = Page::new(alloc);
+    let mut runner = Runner {
+        page: &mut page,
+        out,
+    };
+    let (ended, board) = runner.make_run(plan, u64::from(limit), state);
+    match ended {
+        Ok(end) => Ok((Finish::of(end), board)),
         Err(halt) => Err(halt),
     }
 }

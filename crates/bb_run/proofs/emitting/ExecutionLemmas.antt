@@ -1,5 +1,5 @@
 -- What is emitted of a code that was executed, and of one that was asked, by how that came out.
-use Rattle.std.proofs.Common.{◌≡◌, ◌⊎◌, inl, inr, Ok, Err, List, Option, None, Result, sym, subst, ap, ◌∙◌}
+use Rattle.std.proofs.Common.{◌≡◌, ◌⊎◌, ℕ, inl, inr, Ok, Err, List, Option, None, Result, sym, subst, ap, ◌∙◌}
 use Rattle.bb_agenda.specs.declared.focusing.activation.Activation.{Activation}
 use Rattle.bb_code.specs.Code.{Code}
 use Rattle.bb_verify.specs.Accepted.{Checked}
@@ -14,8 +14,10 @@ use Rattle.bb_theorem_machine.specs.Stop.{Stop}
 use Rattle.bb_theorem_machine.specs.Stop.TheVariants as stops
 use Rattle.bb_trace.specs.Board.{Board as Blackboard}
 use Rattle.bb_trace.specs.End.{End}
+use Rattle.bb_trace.specs.End as ends
 use Rattle.bb_trace.specs.declared.note.Note.{Note}
 use Rattle.bb_run.specs.declared.asking.Reply.{Reply}
+use Rattle.bb_run.specs.declared.asking.Reply.TheVariants as replies
 use Rattle.bb_run.specs.Asking.{asking, attempt, entry_of, reply_by, upon}
 use Rattle.bb_run.specs.State.{State, with_board}
 use Rattle.bb_run.specs.Emission.{Response}
@@ -30,6 +32,13 @@ attempted_by (Err (stopped.Full steps found)) e board gives (inl memory) = absur
 attempted_by (Err (stopped.Full steps found)) e board (inl memory) (inr left) = absurd cc
 attempted_by (Err (stopped.Full steps found)) e board (inr same) (inr left) = (same, left)
 attempted_by (Err stopped.Memory) e board gives left = tt
+
+-- a question replies by how its execution came out
+pub replied_ok : (e : Result Outcome Stop × Blackboard) (o : Outcome) (board : Blackboard) → Attempts e (Ok o) board → Replies e (replies.Answer o.answer) board
+replied_ok e o board came = record { reply_is = ap reply_by (sym came.0); board_is = came.1 }
+
+pub replied_full : (e : Result Outcome Stop × Blackboard) (steps found : ℕ) (board : Blackboard) → Attempts e (Err (stopped.Full steps found)) board → Replies e (replies.Over ends.Full) board
+replied_full e steps found board came = record { reply_is = ap reply_by (sym came.0); board_is = came.1 }
 
 module _ (old new : List Note) (s t : State) (end : Option End) (board : Blackboard) where
   -- an execution was noted
