@@ -12,6 +12,7 @@ ghost use Rattle.bb_run.specs.Finish.{WritesFront, end_of, is_write};
 ghost use Rattle.bb_run.specs.Run.{run, start};
 ghost use Rattle.bb_run.specs.Turns.{settled};
 ghost use Rattle.bb_run.specs.Knowing.{Knows, MayKnow};
+ghost use Rattle.bb_run.specs.Unstuck.{IsUnstuck};
 ghost use Rattle.bb_run.specs.Seen.{seen};
 ghost use Rattle.bb_run.specs.Serving.{MayServe, Serves};
 ghost use Rattle.bb_run.specs.Emitting.{EndsRun, Finishes, Makes, Same, Writes, at};
@@ -172,7 +173,8 @@ pub fn first_state<N: NativeSource>(
 }
 
 /// Runs a blackboard from its first state as `run` does; returns how the run ended and the blackboard that it leaves.
-/// `Memory`: memory ran out. `Write`: the output failed.
+/// `Memory`: memory ran out. `Write`: the output failed. The machine's run is not stuck and keeps its budgets, also
+/// where it is cut short here.
 pub fn run_to_end<N: NativeSource, O: Out>(
     alloc: Global,
     plan: &Plan,
@@ -190,6 +192,7 @@ pub fn run_to_end<N: NativeSource, O: Out>(
         r.1 ≡ (run plan.now start.board (map N.meaning start.roster.natives.items) limit).state.board) }
     ensures written { Writes plan.now (O.taken out.old) (O.taken out.new)
         (run plan.now start.board (map N.meaning start.roster.natives.items) limit).emitted result }
+    ensures unstuck { IsUnstuck (run plan.now start.board (map N.meaning start.roster.natives.items) limit) }
     ensures failed { O.has_failed out.new ≡ stopped_by_write result }
 {
     // For the proof: the invariants of the schema and the plan.

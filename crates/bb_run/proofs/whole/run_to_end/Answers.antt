@@ -6,6 +6,7 @@ use Rattle.bb_run.specs.Unstuck.{NotDue}
 use Rattle.bb_run.proofs.emitting.WholeLemmas.{none_written}
 use Rattle.bb_run.proofs.natives.DueLemmas.{run_not_due}
 use Rattle.bb_run.proofs.serving.SteadyLemmas.{may_serve}
+use Rattle.bb_run.proofs.serving.UnstuckRuns.{run_is_unstuck}
 use Rattle.bb_run.proofs.whole.run_to_end.Goals as goal
 
 pub make_run-ended-requires-clause-serves : goal.make_run-ended-requires-clause-serves
@@ -24,3 +25,18 @@ of-requires g c =
     record {
       not_due = subst NotDue ends (run_not_due c.args.plan.now c.args.start.board (map g.N.NativeSource.meaning c.args.start.roster.natives.items) c.from.result c.requires.acts);
     }
+
+pub returns-in_err-state-clause-unstuck : goal.returns-in_err-state-clause-unstuck
+returns-in_err-state-clause-unstuck g c =
+    let may = may_serve c.args.plan.now c.args.start.board c.schema.ensures c.fits.ensures c.requires.made c.sources.ensures.sound c.requires.of_schema c.fits-2.ensures in
+    run_is_unstuck c.args.plan.now may.sound (map g.N.NativeSource.meaning c.args.start.roster.natives.items) c.args.start.board c.args.limit may.fits
+
+pub returns-in-Ok-clause-unstuck : goal.returns-in-Ok-clause-unstuck
+returns-in-Ok-clause-unstuck g c =
+    let may = may_serve c.args.plan.now c.args.start.board c.schema.ensures c.fits.ensures c.requires.made c.sources.ensures.sound c.requires.of_schema c.fits-2.ensures in
+    run_is_unstuck c.args.plan.now may.sound (map g.N.NativeSource.meaning c.args.start.roster.natives.items) c.args.start.board c.args.limit may.fits
+
+pub returns-clause-unstuck : goal.returns-clause-unstuck
+returns-clause-unstuck g c =
+    let may = may_serve c.args.plan.now c.args.start.board c.schema.ensures c.fits.ensures c.requires.made c.sources.ensures.sound c.requires.of_schema c.fits-2.ensures in
+    run_is_unstuck c.args.plan.now may.sound (map g.N.NativeSource.meaning c.args.start.roster.natives.items) c.args.start.board c.args.limit may.fits
