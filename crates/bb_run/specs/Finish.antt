@@ -1,4 +1,4 @@
--- The end of a run, by the value that `run` returns.
+-- The end of a run, by the finish that is returned.
 use Rattle.std.specs.Prelude.{ℕ, Bool, true, false, List, take, Option, Some, None, ⊤}
 use Rattle.std.specs.Io.KnownBytes.{Appends}
 use Rattle.bb_trace.specs.End.{End}

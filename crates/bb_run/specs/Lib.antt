@@ -32,7 +32,7 @@ pub mod Acts
 pub mod Weighed
 -- the state that a run leaves
 pub mod Left
--- the end of a run by what `run` returns, and what was written if it was cut short
+-- the end of a run by the finish that is returned, and what was written if it was cut short
 pub mod Finish
 -- what a part of the run's code emits, compared with the definitions
 pub mod Emitting

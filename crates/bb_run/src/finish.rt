@@ -1,4 +1,4 @@
-//! How a run ends, including when it is cut short. `run` returns it.
+//! How a run ends, including when it is cut short. `run_to_end` returns it, as do bb_shell and bb_run_held.
 
 ghost use Rattle.std.specs.Prelude.{◌≡◌, Some};
 ghost use Rattle.bb_run.specs.Finish.{end_of};

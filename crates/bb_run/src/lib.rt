@@ -2,7 +2,7 @@
 //! best one.
 //!
 //! - In: a `Plan`, a `Board` and a roster of natives (`Start`), a limit of cycles and an output.
-//! - Out: `run`, which writes the trace to the output, closes every native once, and returns how the run ended.
+//! - Out: `run_to_end`, which writes the trace to the output, closes every native once, and returns how the run ended.
 //! - Callers rely on: the trace is the abstract blackboard machine's (`specs/Run`), whatever the sources do.
 //! - Cases: `runs`, `triggers`, `foci`, `floors`, `limits_of_runs`, `model-runs`; tests in bb_shell_tests.
 #![tactic(auto)]
@@ -35,4 +35,4 @@ pub use finish::Finish;
 pub use orderly::runs_are_orderly;
 pub use runner::Runner;
 pub use state::{Start, State};
-pub use whole::{first_state, run, run_to_end};
+pub use whole::{first_state, run_to_end};

@@ -1,14 +1,11 @@
-//! A whole run of the blackboard machine, from its start to its finish. `run_texts` calls `run`; bb_shell calls
-//! `run_to_end` when it needs the blackboard that is left.
+//! A whole run of the blackboard machine, from its start to its finish. The shell (bb_shell) calls `run_to_end`.
 
-ghost use Rattle.std.specs.Prelude.{◌≡◌, [], All, Some, IfOk, IfSome, IsSomeAnd, false, map};
-ghost use Rattle.std.specs.Io.KnownBytes.{Appends};
+ghost use Rattle.std.specs.Prelude.{◌≡◌, [], All, Some, IfOk, IsSomeAnd, false, map};
 ghost use Rattle.bb_run_plan.specs.Foci.{first_agenda};
 ghost use Rattle.bb_trace.specs.Law.{IsMade};
 ghost use Rattle.bb_trace.specs.Page.{stopped_by_write};
-ghost use Rattle.bb_trace.specs.TraceText.{trace_text};
 ghost use Rattle.bb_run.specs.Causes.{LacksNative};
-ghost use Rattle.bb_run.specs.Finish.{WritesFront, end_of, is_write};
+ghost use Rattle.bb_run.specs.Finish.{end_of};
 ghost use Rattle.bb_run.specs.Run.{run, start};
 ghost use Rattle.bb_run.specs.Turns.{settled};
 ghost use Rattle.bb_run.specs.Knowing.{Knows, MayKnow};
@@ -172,9 +169,12 @@ pub fn first_state<N: NativeSource>(
     }
 }
 
-/// Runs a blackboard from its first state as `run` does; returns how the run ended and the blackboard that it leaves.
-/// `Memory`: memory ran out. `Write`: the output failed. The machine's run is not stuck and keeps its budgets, also
-/// where it is cut short here.
+/// Runs a blackboard from its first state with the natives handed in, for at most `limit` cycles, and writes the trace.
+/// Returns how the run ended and the blackboard that it leaves. At the end every native is closed once, in order, also
+/// if the run was cut short. `Memory`: memory ran out. `Write`: the output failed. The blackboard has the plan's schema,
+/// and the sources were made under it, from codes that the verifier accepted under it; each source has a code for its
+/// act, or there is a native of its name. So no execution can get stuck, and no native is due at the end; the machine's
+/// run is not stuck and keeps its budgets, also where it is cut short here.
 pub fn run_to_end<N: NativeSource, O: Out>(
     alloc: Global,
     plan: &Plan,
@@ -210,41 +210,5 @@ pub fn run_to_end<N: NativeSource, O: Out>(
     match ended {
         Ok(end) => Ok((Finish::of(end), board)),
         Err(halt) => Err(halt),
-    }
-}
-
-/// Runs a blackboard from its first state with the natives handed in, for at most `limit` cycles, and writes the trace.
-/// At the end every native is closed once, in order, also if the run was cut short. `Memory`: memory ran out. `Write`:
-/// the output failed. The blackboard has the plan's schema, and the sources were made under it, from codes that the
-/// verifier accepted under it; each source has a code for its act, or there is a native of its name. So no execution
-/// can get stuck, and no native is due at the end.
-pub fn run<N: NativeSource, O: Out>(
-    alloc: Global,
-    plan: &Plan,
-    start: Start<N>,
-    limit: u32,
-    out: &mut O,
-) -> Finish
-    requires made { ∥ All (IsMade plan.now.schema) plan.now.sources ∥₁ }
-    requires acts { ¬ LacksNative plan.now (map N.meaning start.roster.natives.items) }
-    requires of_schema { start.board.schema ≡ plan.now.schema }
-    requires open { O.has_failed out.old ≡ false }
-    ensures finish { IfSome (end_of result) (λ end.
-        (run plan.now start.board (map N.meaning start.roster.natives.items) limit).end ≡ Some end) }
-    ensures text { IfSome (end_of result) (λ _. Appends (O.taken out.old) (O.taken out.new)
-        (trace_text plan.now (run plan.now start.board (map N.meaning start.roster.natives.items) limit).emitted)) }
-    ensures front { WritesFront plan.now (run plan.now start.board (map N.meaning start.roster.natives.items) limit)
-        result (O.taken out.old) (O.taken out.new) }
-    ensures failed { O.has_failed out.new ≡ is_write result }
-{
-    match run_to_end(alloc, plan, start, limit, out) {
-        Ok((finish, board)) => {
-            drop(board);
-            finish
-        }
-        Err(halt) => match halt {
-            Halt::Memory => Finish::Memory,
-            Halt::Write => Finish::Write,
-        },
     }
 }

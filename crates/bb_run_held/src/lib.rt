@@ -16,7 +16,7 @@ pub use bb_run::{
     Act, Activation, Agenda, Ask, Board, ClassPlace, Classes, ClauseList, ClausePlace, Closed,
     Closing, DimValue, DocumentPlace, End, Finish, Halt, ListItem, ListKey, NativeSource, Node,
     OperandKind, Out, Pattern, Pipe, Plan, Query, Relation, Roster, RuleFault, SOURCE_LIMIT,
-    SharedSchema, Source, Start, UnitsFault, UnitsFlaw, View, close_each, put_all, run, run_to_end,
+    SharedSchema, Source, Start, UnitsFault, UnitsFlaw, View, close_each, put_all, run_to_end,
     runs_are_orderly,
 };
 pub use orderly::moves_are_orderly;

@@ -18,7 +18,7 @@ use crate::fitting::{Unfit, fit_all};
 use crate::texts::{Texts, read_input};
 use bb_refusal::InputFault;
 use bb_run::{
-    Board, Closing, Finish, Halt, NativeSource, Out, Plan, Roster, RuleFault, Source, Start, run,
+    Board, Closing, Finish, Halt, NativeSource, Out, Plan, Roster, RuleFault, Source, Start,
     run_to_end,
 };
 use std::alloc::Global;
@@ -112,7 +112,16 @@ impl<N: NativeSource> Shell<N> {
             board,
             roster,
         } = self;
-        run(alloc, &plan, Start { board, roster }, limit, out)
+        match run_to_end(alloc, &plan, Start { board, roster }, limit, out) {
+            Ok((finish, left)) => {
+                drop(left);
+                finish
+            }
+            Err(halt) => match halt {
+                Halt::Memory => Finish::Memory,
+                Halt::Write => Finish::Write,
+            },
+        }
     }
 
     /// Runs the shell as `run` does; returns how the run ended and the blackboard that it leaves. `Memory`: memory ran

@@ -1,18 +1,16 @@
 //! Runs an input and writes the blackboard that is left as a document of initial units. Programs (bb_main) call
 //! `units_texts`.
 
-ghost use Rattle.std.specs.Prelude.{◌≡◌, ◌⊎◌, true, map, IfErr, IfOk, IsOkAnd, IsSomeAnd, Err, Some, string_bytes};
-ghost use Rattle.bb_run.specs.Finish.{end_of};
+ghost use Rattle.std.specs.Prelude.{◌≡◌, ◌⊎◌, true, map, IfErr, IfOk, IsOkAnd, Err, string_bytes};
 ghost use Rattle.bb_run.specs.Roster.{all_open};
-ghost use Rattle.bb_run.specs.Run.{run};
 ghost use Rattle.bb_shell.specs.Left.{EndsBy, LoadsAsLeft, left_text, meaning_of};
 
 use crate::shell::Shell;
 use crate::sink::Sink;
 use crate::texts::Texts;
-use crate::{Board, Finish, InputFault, Memory, NativeSource, View};
+use crate::{Finish, InputFault, NativeSource, View};
 use bb_board_document::units_document;
-use std::alloc::{AllocError, Global};
+use std::alloc::Global;
 
 /// What a run leaves.
 #[derive(Drop)]
@@ -50,26 +48,11 @@ pub fn units_texts<N: NativeSource>(
         ⊎ (meaning_of (map N.meaning natives.items) texts.now floor ≡ Err e)) }
 {
     let shell = Shell::of_texts(alloc, texts, natives, floor)?;
-    let (finish, board) = run_out(alloc, shell, limit)?;
+    let mut sink = Sink;
+    // It fails only if memory runs out, since the output takes everything.
+    let Ok((finish, board)) = shell.run_to_end(alloc, limit, &mut sink) else {
+        return Err(InputFault::Memory);
+    };
     let document = units_document(alloc, &View::new(&board))?;
     Ok(Left { finish, document })
-}
-
-// Runs a shell; returns how the run ended and the blackboard that it leaves. It fails only if memory runs out, since
-// the output takes everything.
-fn run_out<N: NativeSource>(
-    alloc: Global,
-    shell: Shell<N>,
-    limit: u32,
-) -> Result<(Finish, Board), Memory>
-    ensures finish { IfOk result (λ r. IsSomeAnd (end_of r.0) (λ end.
-        (run shell.plan shell.board (map N.meaning shell.roster.natives.items) limit).end ≡ Some end)) }
-    ensures board { IfOk result (λ r.
-        r.1 ≡ (run shell.plan shell.board (map N.meaning shell.roster.natives.items) limit).state.board) }
-{
-    let mut sink = Sink;
-    match shell.run_to_end(alloc, limit, &mut sink) {
-        Ok(left) => Ok(left),
-        Err(_) => Err(AllocError),
-    }
 }

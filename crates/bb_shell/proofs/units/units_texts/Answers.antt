@@ -18,7 +18,7 @@ returns-clause-finish g c =
     let m : Meaning = record { plan = s.plan; board = s.board } in
     let means = subst (λ (z : ℤ). meaning_of natives c.args.texts.now z ≡ Ok m) (to_z-of_z w64 c.args.floor (search rules)) c.in_ok-shell.ensures.means in
     at_meaning (meaning_of natives c.args.texts.now c.args.floor) m (map g.N.NativeSource.meaning s.roster.natives.items) natives
-    (λ (ns : List Native) (n : Meaning). EndsBy ns c.args.limit n c.in_ok-finish.finish) means c.in_ok-shell.ensures.natives c.in_ok-finish.ensures.finish
+    (λ (ns : List Native) (n : Meaning). EndsBy ns c.args.limit n c.in-Ok.finish) means c.in_ok-shell.ensures.natives c.in-Ok.ensures.finish
 
 pub returns-clause-text : goal.returns-clause-text
 returns-clause-text g c =
@@ -26,7 +26,7 @@ returns-clause-text g c =
     let natives = map g.N.NativeSource.meaning c.args.natives.items in
     let m : Meaning = record { plan = s.plan; board = s.board } in
     let means = subst (λ (z : ℤ). meaning_of natives c.args.texts.now z ≡ Ok m) (to_z-of_z w64 c.args.floor (search rules)) c.in_ok-shell.ensures.means in
-    let text = c.in_ok-document.ensures.text ∙ ap units_text (c.new.ensures ∙ ap sight_of c.in_ok-finish.ensures.board) in
+    let text = c.in_ok-document.ensures.text ∙ ap units_text (c.new.ensures ∙ ap sight_of c.in-Ok.ensures.board) in
     at_meaning (meaning_of natives c.args.texts.now c.args.floor) m (map g.N.NativeSource.meaning s.roster.natives.items) natives
     (λ (ns : List Native) (n : Meaning). string_bytes c.in_ok-document.document ≡ left_text ns c.args.limit n) means c.in_ok-shell.ensures.natives text
 
@@ -36,6 +36,6 @@ returns-clause-loads g c =
     let natives = map g.N.NativeSource.meaning c.args.natives.items in
     let m : Meaning = record { plan = s.plan; board = s.board } in
     let means = subst (λ (z : ℤ). meaning_of natives c.args.texts.now z ≡ Ok m) (to_z-of_z w64 c.args.floor (search rules)) c.in_ok-shell.ensures.means in
-    let loads = subst (λ (seen : Sight). LoadsAs seen.schema (string_bytes c.in_ok-document.document) (renumbered seen)) (c.new.ensures ∙ ap sight_of c.in_ok-finish.ensures.board) c.in_ok-document.ensures.loads in
+    let loads = subst (λ (seen : Sight). LoadsAs seen.schema (string_bytes c.in_ok-document.document) (renumbered seen)) (c.new.ensures ∙ ap sight_of c.in-Ok.ensures.board) c.in_ok-document.ensures.loads in
     at_meaning (meaning_of natives c.args.texts.now c.args.floor) m (map g.N.NativeSource.meaning s.roster.natives.items) natives
     (λ (ns : List Native) (n : Meaning). LoadsAsLeft ns c.args.limit n (string_bytes c.in_ok-document.document)) means c.in_ok-shell.ensures.natives loads
