@@ -10,6 +10,7 @@ ghost use Rattle.bb_run.specs.Page.{stopped_by_write};
 ghost use Rattle.bb_run.specs.Roster.{all_open};
 ghost use Rattle.bb_run.specs.Run.{run};
 ghost use Rattle.bb_run.specs.TraceText.{trace_text};
+ghost use Rattle.bb_run.specs.Unstuck.{IsUnstuck};
 ghost use Rattle.bb_shell.specs.Fitting.{HasAct, names_in, native_names};
 ghost use Rattle.bb_shell.specs.Meaning.{meaning};
 ghost use Rattle.bb_shell.specs.Shell.{shell_of};
@@ -96,7 +97,8 @@ impl<N: NativeSource> Shell<N> {
     }
 
     /// Runs the shell for at most `limit` cycles and writes the trace. Every native is closed once, in order, however
-    /// the run ends. `Memory`: memory ran out. `Write`: the output failed.
+    /// the run ends. `Memory`: memory ran out. `Write`: the output failed. The machine's run is not stuck and keeps its
+    /// budgets, also where it is cut short here.
     pub fn run<O: Out>(self, alloc: Global, limit: u32, out: &mut O) -> Finish
         requires open { O.has_failed out.old ≡ false }
         ensures finish { IfSome (end_of result) (λ end.
@@ -105,6 +107,7 @@ impl<N: NativeSource> Shell<N> {
             (trace_text self.plan (run self.plan self.board (map N.meaning self.roster.natives.items) limit).emitted)) }
         ensures front { WritesFront self.plan (run self.plan self.board (map N.meaning self.roster.natives.items) limit)
             result (O.taken out.old) (O.taken out.new) }
+        ensures unstuck { IsUnstuck (run self.plan self.board (map N.meaning self.roster.natives.items) limit) }
         ensures failed { O.has_failed out.new ≡ is_write result }
     {
         let Shell {
@@ -139,6 +142,7 @@ impl<N: NativeSource> Shell<N> {
             r.1 ≡ (run self.plan self.board (map N.meaning self.roster.natives.items) limit).state.board) }
         ensures written { Writes self.plan (O.taken out.old) (O.taken out.new)
             (run self.plan self.board (map N.meaning self.roster.natives.items) limit).emitted result }
+        ensures unstuck { IsUnstuck (run self.plan self.board (map N.meaning self.roster.natives.items) limit) }
         ensures failed { O.has_failed out.new ≡ stopped_by_write result }
     {
         let Shell {

@@ -13,6 +13,7 @@ ghost use Rattle.bb_shell.specs.Fitting.{names_in, native_names};
 ghost use Rattle.bb_shell.specs.Meaning.{Meaning, meaning};
 ghost use Rattle.bb_run.specs.Run.{run};
 ghost use Rattle.bb_run.specs.TraceText.{trace_text};
+ghost use Rattle.bb_run.specs.Unstuck.{IsUnstuck};
 
 use crate::given::given;
 use crate::shell::Shell;
@@ -57,6 +58,13 @@ pub fn run_texts<N: NativeSource, O: Out>(
         ≡ Ok m)
         × WritesFront m.plan (run m.plan m.board (map N.meaning natives.items) limit) f
         (O.taken out.old) (O.taken out.new)) }
+
+    // The run of the meaning is not stuck, and no execution in it makes more steps than its budget, also where the run
+    // was cut short.
+    ensures unstuck { IfOk result (λ _. (m : Meaning)
+        × (meaning (native_names (map N.meaning natives.items)) schema.now units.now sources.now bundle.now floor
+        ≡ Ok m)
+        × IsUnstuck (run m.plan m.board (map N.meaning natives.items) limit)) }
 
     // `Write` means that the output has failed, and no other finish does.
     ensures failed { IfOk result (λ f. O.has_failed out.new ≡ is_write f) }
