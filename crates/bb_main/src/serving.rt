@@ -14,7 +14,7 @@ ghost use Rattle.bb_main_input.specs.Input.{input_of};
 ghost use Rattle.bb_main.specs.Natives.{program_natives};
 ghost use Rattle.bb_main_input.specs.Reading.{HasTaken, TakesAtMost};
 ghost use Rattle.bb_main_input.specs.Refusals.{section_line};
-ghost use Rattle.bb_main.specs.Serve.{CutShort, Delivers, Serves, answer, answer_in, answer_to_check};
+ghost use Rattle.bb_main.specs.Serve.{CutShort, Delivers, Serves, answer, answer_to_check};
 ghost use Rattle.bb_main.specs.Serve.{answer_to_compile, answer_to_meaning, done_status};
 ghost use Rattle.bb_main.specs.Serve.{limit_refusal, read_refusal, refusal, status_of};
 ghost use Rattle.bb_main.specs.declared.serving.TheConstants.{REFUSED, WRITE};
@@ -202,38 +202,16 @@ fn serve_bytes<N: NativeSource, O: Out>(
     ensures unasked { options.mode ≢ Mode.Check → IsNone result.advice }
 {
     match Sections::of_bytes(bytes) {
-        Ok(sections) => serve_sections(alloc, options, natives, sections, writer),
+        Ok(sections) => match options.mode {
+            Mode::Run => run_sections(alloc, options, natives, sections, writer),
+            Mode::Check => check_sections(alloc, options.floor, natives, sections, writer),
+            Mode::Compile => compile_sections(alloc, natives, sections, writer),
+            Mode::Units => units_sections(alloc, options, natives, sections, writer),
+        },
         Err(fault) => {
             let reason = SectionReport { fault, bytes };
             refuse_input(alloc, fault.line(), reason, natives, writer)
         }
-    }
-}
-
-// Serves an input with these sections.
-fn serve_sections<N: NativeSource, O: Out>(
-    alloc: Global,
-    options: Options,
-    natives: Vec<N>,
-    sections: Sections<'_>,
-    writer: &mut O,
-) -> Served
-    requires natives { all_open (map N.meaning natives.items) ≡ true }
-    requires open { O.has_failed writer.old ≡ false }
-    ensures answer { let s = sections.entry in
-        let a = answer_in (map N.meaning natives.items) options.mode options.limit options.floor
-        s.schema.now s.units.now s.sources.now s.bundle.now in
-        Delivers a (O.taken writer.old) (O.taken writer.new) result.status
-        ⊎ CutShort a (O.taken writer.old) (O.taken writer.new) result.status }
-    ensures failed { O.has_failed writer.new ≡ (result.status == WRITE) }
-    ensures silent { result.status ≢ REFUSED → IsNone result.report }
-    ensures unasked { options.mode ≢ Mode.Check → IsNone result.advice }
-{
-    match options.mode {
-        Mode::Run => run_sections(alloc, options, natives, sections, writer),
-        Mode::Check => check_sections(alloc, options.floor, natives, sections, writer),
-        Mode::Compile => compile_sections(alloc, natives, sections, writer),
-        Mode::Units => units_sections(alloc, options, natives, sections, writer),
     }
 }
 
