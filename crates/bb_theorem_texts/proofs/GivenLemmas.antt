@@ -1,5 +1,6 @@
 -- What the sources of an input are made of: each has the codes that its text or its bundle gives, at its place.
 use Rattle.std.proofs.Common.{◌≡◌, ℕ, zero, suc, List, [], ◌∷◌, ◌++◌, slice_get, Option, Some, None, option_map, Result, Ok, refl, sym, ap, subst, ◌∙◌}
+use Rattle.std.specs.List.{AllZip}
 use Rattle.bb_basis.specs.Results.{◌>>=◌, map_err, try_map}
 use Rattle.bb_basis.proofs.PlacedLemmas.{map_err_ok}
 use Rattle.bb_basis.proofs.ResultLemmas.{bind_ok, ok_or_ok, same_ok}
@@ -34,7 +35,8 @@ use Rattle.bb_shell.specs.Fitting.{fitted}
 use Rattle.bb_shell.proofs.Laws.{fitted_same}
 use Rattle.bb_shell.specs.Sources.{codes_in, compiled_source, compiled_text, given, in_input, resolved_source, sources_for}
 use Rattle.bb_theorem_meaning.specs.Sources.{AreMeant, within_budget}
-use Rattle.bb_theorem_texts.specs.Texts.{HasCodes, RunsAt, act_in, code_in, drafted, reaction_in}
+use Rattle.bb_theorem_texts.specs.Texts.{HasCodes, HasReaction, IsClause, RunsAt, act_in, code_in}
+use Rattle.bb_theorem_texts.proofs.ClauseLemmas.{clauses_are}
 
 -- ---- lists
 
@@ -60,8 +62,12 @@ in_front (y ∷ xs) ys (suc i) x h = in_front xs ys i x h
 
 -- ---- the codes of a source
 
-abbrev accepted_in : Option (ReactionDraft Checked) → Option Code
-accepted_in reaction = option_map (λ r. r.code.code) reaction
+-- a reaction with its code alone, without what its acceptance added
+abbrev bare : ReactionDraft Checked → ReactionDraft Code
+bare r = record { class = r.class; clauses = r.clauses; code = r.code.code }
+
+abbrev drafted : Option (ReactionDraft Checked) → Option (ReactionDraft Code)
+drafted reaction = option_map bare reaction
 
 abbrev draft_act : ActDraft Checked → ActDraft Code
 draft_act (drafts.Do c) = drafts.Do c.code
@@ -101,16 +107,16 @@ module _ (s : Schema) where
       let one = bind_ok (accepted_code s part code) (λ d. Ok (Some d)) made h in
       ap code_in (sym (same_ok (Some one.0) made one.2)) ∙ ap (λ c. Some c) (code_same part code one.0 one.1)
 
-  reaction_same : (place : ClassPlace) (part : ℕ → Part) (draft : Option (ReactionDraft Code)) (of : Option ℕ) (made : Option (ReactionDraft Checked)) → reaction_class s place draft ≡ Ok of → accepted_reaction s (option_map part of) draft ≡ Ok made → accepted_in made ≡ drafted draft
-  reaction_same place part None None made found h = ap accepted_in (sym (same_ok None made h))
+  reaction_same : (place : ClassPlace) (part : ℕ → Part) (draft : Option (ReactionDraft Code)) (of : Option ℕ) (made : Option (ReactionDraft Checked)) → reaction_class s place draft ≡ Ok of → accepted_reaction s (option_map part of) draft ≡ Ok made → drafted made ≡ draft
+  reaction_same place part None None made found h = ap drafted (sym (same_ok None made h))
   reaction_same place part None (Some class) made found h = absurd (let no : None ≡ Some class = same_ok None (Some class) found in cc)
   reaction_same place part (Some draft) None made found h =
       let one = bind_ok (class_of s place draft.class) (λ c. Ok (Some c)) None found in
       absurd (let no : Some one.0 ≡ None = same_ok (Some one.0) None one.2 in cc)
   reaction_same place part (Some draft) (Some class) made found h =
       let one = bind_ok (accepted_code s (part class) draft.code) (λ c. Ok (Some (record { class = draft.class; clauses = draft.clauses; code = c }))) made h in
-      ap accepted_in (sym (same_ok (Some (record { class = draft.class; clauses = draft.clauses; code = one.0 })) made one.2))
-      ∙ ap (λ c. Some c) (code_same (part class) draft.code one.0 one.1)
+      ap drafted (sym (same_ok (Some (record { class = draft.class; clauses = draft.clauses; code = one.0 })) made one.2))
+      ∙ ap (λ (c : Code). Some (record { class = draft.class; clauses = draft.clauses; code = c })) (code_same (part class) draft.code one.0 one.1)
 
   act_same : (part : Part) (draft : ActDraft Code) (made : ActDraft Checked) → accepted_act s part draft ≡ Ok made → draft_act made ≡ draft
   act_same part (drafts.Do code) made h =
@@ -122,8 +128,8 @@ module _ (s : Schema) where
   record HasSame (draft : SourceDraft Code) (made : SourceDraft Checked) : Type 0 where
     header : made.header ≡ draft.header
     require : code_in made.parts.require ≡ draft.parts.require
-    obviate : accepted_in made.parts.obviate ≡ drafted draft.parts.obviate
-    retrigger : accepted_in made.parts.retrigger ≡ drafted draft.parts.retrigger
+    obviate : drafted made.parts.obviate ≡ draft.parts.obviate
+    retrigger : drafted made.parts.retrigger ≡ draft.parts.retrigger
     revalidate : code_in made.parts.revalidate ≡ draft.parts.revalidate
     act : draft_act made.act ≡ draft.act
 
@@ -163,15 +169,21 @@ module _ (s : Schema) where
 
   -- ---- the source that is made of it
 
-  reaction_made : (place : ClassPlace) (list : ClauseList) (draft : Option (ReactionDraft Checked)) (of : Option ℕ) (made : Option Reaction) → reaction_class s place draft ≡ Ok of → reaction_of s list of draft ≡ Ok made → reaction_in made ≡ accepted_in draft
-  reaction_made place list None None made found h = ap reaction_in (sym (same_ok None made h))
+  reaction_made : (place : ClassPlace) (list : ClauseList) (draft : Option (ReactionDraft Checked)) (of : Option ℕ) (made : Option Reaction) → reaction_class s place draft ≡ Ok of → reaction_of s list of draft ≡ Ok made → HasReaction s (drafted draft) made
+  reaction_made place list None None made found h = subst (HasReaction s None) (same_ok None made h) tt
   reaction_made place list None (Some class) made found h = absurd (let no : None ≡ Some class = same_ok None (Some class) found in cc)
   reaction_made place list (Some draft) None made found h =
       let one = bind_ok (class_of s place draft.class) (λ c. Ok (Some c)) None found in
       absurd (let no : Some one.0 ≡ None = same_ok (Some one.0) None one.2 in cc)
   reaction_made place list (Some draft) (Some class) made found h =
+      let named = bind_ok (class_of s place draft.class) (λ c. Ok (Some c)) (Some class) found in
+      let own : named.0 ≡ class = (let same : Some named.0 ≡ Some class = same_ok (Some named.0) (Some class) named.2 in cc) in
       let one = bind_ok (clauses_of s list class draft.clauses) (λ cs. Ok (Some (record { class = class; clauses = cs; code = draft.code }))) made h in
-      ap reaction_in (sym (same_ok (Some (record { class = class; clauses = one.0; code = draft.code })) made one.2))
+      subst (HasReaction s (Some (bare draft))) (same_ok (Some (record { class = class; clauses = one.0; code = draft.code })) made one.2) (record {
+        class = ok_or_ok (rules.Class place) (class_named s draft.class) named.0 named.1 ∙ ap (λ c. Some c) own;
+        clauses = clauses_are s list class draft.clauses one.0 one.1;
+        code = refl;
+      })
 
   act_made : (act : ActDraft Checked) → act_in (act_of act) ≡ draft_act act
   act_made (drafts.Do c) = refl
@@ -195,9 +207,10 @@ module _ (s : Schema) where
         name = ap (λ x. x.name) same.header;
         class = subst (λ x. class_named s x.class ≡ Some c.own) same.header classes.own;
         rate = ap (λ x. x.rate) same.header;
+        triggers = subst (λ x. AllZip (IsClause s) x.triggers three.0) same.header (clauses_are s lists.Triggers c.own d.header.triggers three.0 three.1);
         require = same.require;
-        obviate = reaction_made places.Obviate lists.Obviate d.parts.obviate c.obviated four.0 classes.obviated four.1 ∙ same.obviate;
-        retrigger = reaction_made places.Retrigger lists.Retrigger d.parts.retrigger c.retriggered five.0 classes.retriggered five.1 ∙ same.retrigger;
+        obviate = subst (λ o. HasReaction s o four.0) same.obviate (reaction_made places.Obviate lists.Obviate d.parts.obviate c.obviated four.0 classes.obviated four.1);
+        retrigger = subst (λ o. HasReaction s o five.0) same.retrigger (reaction_made places.Retrigger lists.Retrigger d.parts.retrigger c.retriggered five.0 classes.retriggered five.1);
         revalidate = same.revalidate;
         act = act_made d.act ∙ same.act;
       })

@@ -1,3 +1,5 @@
+-- the clauses of a source
+pub mod ClauseLemmas
 -- what the sources of an input are made of
 pub mod GivenLemmas
 -- which sources the verifier refuses
