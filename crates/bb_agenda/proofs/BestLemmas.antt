@@ -77,8 +77,8 @@ module _ (rate : ℕ → ℤ → ℤ) (weight : ℕ → ℤ) (sums : (s : ℕ) (
       at Greater h g p = absurd cc
 
   module _ (orders : List (BTreeSet Rank)) where
-    there : (i : ℕ) (o : BTreeSet Rank) (r : Rank) → slice_get orders i ≡ Some o → is_ranked orders i r ≡ contains rank_cmp o r
-    there i o r is = ap (λ x. option_map_or (λ y. contains rank_cmp y r) x false) is
+    is_ranked_contains : (i : ℕ) (o : BTreeSet Rank) (r : Rank) → slice_get orders i ≡ Some o → is_ranked orders i r ≡ contains rank_cmp o r
+    is_ranked_contains i o r is = ap (λ x. option_map_or (λ y. contains rank_cmp y r) x false) is
 
     -- a source of which none is pending
     pub best_same : (i : ℕ) (o : BTreeSet Rank) (best : Option Candidate) → slice_get orders i ≡ Some o → o.keys ≡ [] → BestOf rate orders i best → BestOf rate orders (i + 1) best
@@ -92,7 +92,7 @@ module _ (rate : ℕ → ℤ → ℤ) (weight : ℕ → ℤ) (sums : (s : ℕ) (
         by s r ranked (inr le) lt =
             let same : s ≡ i = omega (arith, le, lt) in
             absurd (let e : is_ranked orders i r ≡ true = subst (λ n. is_ranked orders n r ≡ true) same ranked in
-            let f : is_ranked orders i r ≡ false = there i o r is ∙ ap (λ ks. list_any (λ q. is_eq (rank_cmp r q)) ks) none in cc)
+            let f : is_ranked orders i r ≡ false = is_ranked_contains i o r is ∙ ap (λ ks. list_any (λ q. is_eq (rank_cmp r q)) ks) none in cc)
 
     -- a source whose first is compared
     pub best_more : (i : ℕ) (o : BTreeSet Rank) (k : Rank) (best : Option Candidate) (next : Candidate) → slice_get orders i ≡ Some o → contains rank_cmp o k ≡ true
@@ -104,7 +104,7 @@ module _ (rate : ℕ → ℤ → ℤ) (weight : ℕ → ℤ) (sums : (s : ℕ) (
     }
       where
         itself : StandsFor rate orders next
-        itself = (i, k, there i o k is ∙ member, rated, numbered)
+        itself = (i, k, is_ranked_contains i o k is ∙ member, rated, numbered)
 
         chosen_one : (t : Bool) (c d : Candidate) → StandsFor rate orders c → Some (cond t next c) ≡ Some d → StandsFor rate orders d
         chosen_one true c d old e = let same : next ≡ d = cc in subst (StandsFor rate orders) same itself
@@ -118,7 +118,7 @@ module _ (rate : ℕ → ℤ → ℤ) (weight : ℕ → ℤ) (sums : (s : ℕ) (
         by s r ranked (inl lt) _ = weaker (rate s r.base.0) r.number best next (b.first s r lt ranked)
         by s r ranked (inr le) lt =
             let same : i ≡ s = omega (arith, le, lt) in
-            let here : contains rank_cmp o r ≡ true = sym (there i o r is) ∙ subst (λ n. is_ranked orders n r ≡ true) (sym same) ranked in
+            let here : contains rank_cmp o r ≡ true = sym (is_ranked_contains i o r is) ∙ subst (λ n. is_ranked orders n r ≡ true) (sym same) ranked in
             let led : precedes (rate i r.base.0) r.number (rate i k.base.0) k.number ≡ false = leads i k r (least r here) in
             subst (λ n. IsFirst (rate n r.base.0) r.number (Some (better best next))) same
             (newer (rate i r.base.0) r.number best next (ap (λ z. precedes (rate i r.base.0) r.number z next.number) rated ∙ ap (precedes (rate i r.base.0) r.number (rate i k.base.0)) numbered ∙ led))

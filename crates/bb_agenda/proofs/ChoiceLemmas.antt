@@ -20,22 +20,22 @@ use Rattle.bb_agenda.proofs.RankLemmas.{same_itself, same_parts, has_rank}
 use Rattle.bb_agenda.proofs.RisingLemmas.{found_contained}
 
 module _ {X : Type 0} where
-  later : (x : X) (xs : List X) (a : X) → Contains xs a → Contains (x ∷ xs) a
-  later x xs a (k, lt, is) = (suc k, omega (arith, lt), is)
+  contains_later : (x : X) (xs : List X) (a : X) → Contains xs a → Contains (x ∷ xs) a
+  contains_later x xs a (k, lt, is) = (suc k, omega (arith, lt), is)
 
   -- what holds of each that is there
   each_contained : (P : X → Type 0) (xs : List X) → ((a : X) → Contains xs a → P a) → AllByRecursion P xs
   each_contained P [] all = tt
-  each_contained P (x ∷ xs) all = (all x (0, omega arith, refl), each_contained P xs (λ a there. all a (later x xs a there)))
+  each_contained P (x ∷ xs) all = (all x (0, omega arith, refl), each_contained P xs (λ a there. all a (contains_later x xs a there)))
 
   all_contained : (p : X → Bool) (xs : List X) → ((a : X) → Contains xs a → p a ≡ true) → list_all p xs ≡ true
   all_contained p [] all = refl
-  all_contained p (x ∷ xs) all = ap (λ b. b && list_all p xs) (all x (0, omega arith, refl)) ∙ all_contained p xs (λ a there. all a (later x xs a there))
+  all_contained p (x ∷ xs) all = ap (λ b. b && list_all p xs) (all x (0, omega arith, refl)) ∙ all_contained p xs (λ a there. all a (contains_later x xs a there))
 
   -- the only one that passes is found
   found_only : (p : X → Bool) (xs : List X) (a : X) → Contains xs a → p a ≡ true → ((b : X) → Contains xs b → p b ≡ true → b ≡ a) → find p xs ≡ Some a
   found_only p [] a (k, lt, is) passes only = absurd (omega (arith, lt))
-  found_only p (x ∷ xs) a there passes only = at (p x) refl there (λ rest. found_only p xs a rest passes (λ b more. only b (later x xs b more)))
+  found_only p (x ∷ xs) a there passes only = at (p x) refl there (λ rest. found_only p xs a rest passes (λ b more. only b (contains_later x xs b more)))
     where
       at : (t : Bool) → p x ≡ t → Contains (x ∷ xs) a → (Contains xs a → find p xs ≡ Some a) → cond t (Some x) (find p xs) ≡ Some a
       at true h there rest = ap (λ y. Some y) (only x (0, omega arith, refl) h)
@@ -116,15 +116,15 @@ module _ (rate : Activation → ℤ) (floor : ℤ) (xs : List Activation) (risin
             }
 
     -- one comes before none
-    behind : (c : Activation) → Contains xs c → (b : Candidate) → IsFirst (by c.source c.base) c.number (Some b) → precedes (rate c) c.number b.rating b.number ≡ false
-    behind c there b first = subst (λ z. precedes z c.number b.rating b.number ≡ false) (rates c) first
+    none_precedes_best : (c : Activation) → Contains xs c → (b : Candidate) → IsFirst (by c.source c.base) c.number (Some b) → precedes (rate c) c.number b.rating b.number ≡ false
+    none_precedes_best c there b first = subst (λ z. precedes z c.number b.rating b.number ≡ false) (rates c) first
 
     -- nothing is pending
     pub no_best : ((s : ℕ) (r : Rank) → is_ranked orders s r ≡ true → IsFirst (by s r.base.0) r.number None) → chosen rate floor xs ≡ None
     no_best all = chosen_low (λ b there. absurd (all b.source (rank_of b) (contained_ranked b there)))
 
     pub too_low : (b : Candidate) → b.rating <ℤ floor → ((s : ℕ) (r : Rank) → is_ranked orders s r ≡ true → IsFirst (by s r.base.0) r.number (Some b)) → chosen rate floor xs ≡ None
-    too_low b low all = chosen_low (λ c there. lower c (behind c there b (all c.source (rank_of c) (contained_ranked c there))))
+    too_low b low all = chosen_low (λ c there. lower c (none_precedes_best c there b (all c.source (rank_of c) (contained_ranked c there))))
       where
         lower : (c : Activation) → precedes (rate c) c.number b.rating b.number ≡ false → rate c <ℤ floor
         lower c apart = let le = (not_higher (rate c) c.number b.rating b.number apart) in omega (arith, ints)
@@ -137,7 +137,7 @@ module _ (rate : Activation → ℤ) (floor : ℤ) (xs : List Activation) (risin
         record {
           a = it.a;
           chosen_it = chosen_is it.a it.there (subst (λ z. floor ≤ℤ z) (sym same) enough)
-              (λ c there. subst (λ n. precedes (rate c) c.number (rate it.a) n ≡ false) (sym number) (subst (λ z. precedes (rate c) c.number z b.number ≡ false) (sym same) (behind c there b (all c.source (rank_of c) (contained_ranked c there)))));
+              (λ c there. subst (λ n. precedes (rate c) c.number (rate it.a) n ≡ false) (sym number) (subst (λ z. precedes (rate c) c.number z b.number ≡ false) (sym same) (none_precedes_best c there b (all c.source (rank_of c) (contained_ranked c there)))));
           found = subst (λ n. find (has_number n) xs ≡ Some it.a) (sym numbered) it.found;
           number = number;
         }

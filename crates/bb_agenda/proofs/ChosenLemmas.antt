@@ -102,8 +102,8 @@ module _ {X : Type 0} (low : X → Bool) (before : X → X → Bool) (ranks : Ra
   or_none None = refl
   or_none (Some x) = refl
 
-  below : (xs : List X) (a : X) (r : Option X) → IsFirst low before xs r → low a ≡ true → IsFirst low before (xs ++ a ∷ []) r
-  below xs a r first is =
+  first_with_low : (xs : List X) (a : X) (r : Option X) → IsFirst low before xs r → low a ≡ true → IsFirst low before (xs ++ a ∷ []) r
+  first_with_low xs a r first is =
       let q = best_of low before (xs ++ a ∷ []) in
       let front : find q xs ≡ r = find_same q (best_of low before xs) (λ c. same_below xs a is c (low c) refl) xs ∙ sym first.found in
       let last : find q (a ∷ []) ≡ None = ap (λ u. cond (not u && none_before before (xs ++ a ∷ []) a) (Some a) None) is in
@@ -153,8 +153,8 @@ module _ {X : Type 0} (low : X → Bool) (before : X → X → Bool) (ranks : Ra
       none_before_same xs a c (false_from_ne_true (before a c) (λ t. let u : before a b ≡ true = ranks.past a c b t apart in absurd cc))
   same_behind xs a b first is c false lost = none_before_more xs a c (before a c) refl ∙ (and_left (none_before before xs c) (not (before a c) && true) lost ∙ sym lost)
 
-  kept : (xs : List X) (a b : X) → IsFirst low before xs (Some b) → before a b ≡ false → IsFirst low before (xs ++ a ∷ []) (Some b)
-  kept xs a b first is =
+  first_with_later : (xs : List X) (a b : X) → IsFirst low before xs (Some b) → before a b ≡ false → IsFirst low before (xs ++ a ∷ []) (Some b)
+  first_with_later xs a b first is =
       let q = best_of low before (xs ++ a ∷ []) in
       let front : find q xs ≡ Some b = find_same q (best_of low before xs) (λ c. ap (λ u. not (low c) && u) (same_behind xs a b first is c (none_before before xs c) refl)) xs ∙ sym first.found in
       record {
@@ -227,30 +227,30 @@ BestOf rate floor xs r = IsFirst (λ a. int_lt (rate a) floor) (is_before rate) 
 pub best_none : (rate : Activation → ℤ) (floor : ℤ) → BestOf rate floor [] None
 best_none rate floor = record { found = refl; none = λ e. tt }
 
-one_more : (rate : Activation → ℤ) (floor : ℤ) (xs : List Activation) (a : Activation) (r : Option Activation) (t : Bool) → BestOf rate floor xs r → int_lt (rate a) floor ≡ false → ((b : Activation) → r ≡ Some b → is_before rate a b ≡ t) → BestOf rate floor (xs ++ a ∷ []) (Some (better rate r a))
-one_more rate floor xs a None t first over is = opened (λ a. int_lt (rate a) floor) (is_before rate) (ranked rate floor) xs a first over
-one_more rate floor xs a (Some b) true first over is = rw (is b refl) (overtaken (λ a. int_lt (rate a) floor) (is_before rate) (ranked rate floor) xs a b first over (is b refl))
-one_more rate floor xs a (Some b) false first over is = rw (is b refl) (kept (λ a. int_lt (rate a) floor) (is_before rate) (ranked rate floor) xs a b first (is b refl))
+best_with_one : (rate : Activation → ℤ) (floor : ℤ) (xs : List Activation) (a : Activation) (r : Option Activation) (t : Bool) → BestOf rate floor xs r → int_lt (rate a) floor ≡ false → ((b : Activation) → r ≡ Some b → is_before rate a b ≡ t) → BestOf rate floor (xs ++ a ∷ []) (Some (better rate r a))
+best_with_one rate floor xs a None t first over is = opened (λ a. int_lt (rate a) floor) (is_before rate) (ranked rate floor) xs a first over
+best_with_one rate floor xs a (Some b) true first over is = rw (is b refl) (overtaken (λ a. int_lt (rate a) floor) (is_before rate) (ranked rate floor) xs a b first over (is b refl))
+best_with_one rate floor xs a (Some b) false first over is = rw (is b refl) (first_with_later (λ a. int_lt (rate a) floor) (is_before rate) (ranked rate floor) xs a b first (is b refl))
 
 compared : (rate : Activation → ℤ) (a : Activation) (r : Option Activation) → (t : Bool) × ((b : Activation) → r ≡ Some b → is_before rate a b ≡ t)
 compared rate a None = (true, λ b e. absurd cc)
 compared rate a (Some c) = (is_before rate a c, λ b e. let same : c ≡ b = cc in ap (is_before rate a) (sym same))
 
 -- what the whole of a list brings
-whole : (rate : Activation → ℤ) (floor : ℤ) (xs ys : List Activation) (r : Option Activation) → BestOf rate floor xs r → (s : Option Activation) × BestOf rate floor (xs ++ ys) s
-whole rate floor xs [] r first = (r, subst (λ l. BestOf rate floor l r) (sym (append-nil xs)) first)
-whole rate floor xs (y ∷ ys) r first =
+best_with_all : (rate : Activation → ℤ) (floor : ℤ) (xs ys : List Activation) (r : Option Activation) → BestOf rate floor xs r → (s : Option Activation) × BestOf rate floor (xs ++ ys) s
+best_with_all rate floor xs [] r first = (r, subst (λ l. BestOf rate floor l r) (sym (append-nil xs)) first)
+best_with_all rate floor xs (y ∷ ys) r first =
     let next = by (int_lt (rate y) floor) refl in
-    subst (λ l. (s : Option Activation) × BestOf rate floor l s) (append_assoc xs (y ∷ []) ys) (whole rate floor (xs ++ y ∷ []) ys next.0 next.1)
+    subst (λ l. (s : Option Activation) × BestOf rate floor l s) (append_assoc xs (y ∷ []) ys) (best_with_all rate floor (xs ++ y ∷ []) ys next.0 next.1)
   where
     by : (t : Bool) → int_lt (rate y) floor ≡ t → (s : Option Activation) × BestOf rate floor (xs ++ y ∷ []) s
-    by true low = (r, below (λ a. int_lt (rate a) floor) (is_before rate) (ranked rate floor) xs y r first low)
-    by false over = let t = compared rate y r in (Some (better rate r y), one_more rate floor xs y r t.0 first over t.1)
+    by true low = (r, first_with_low (λ a. int_lt (rate a) floor) (is_before rate) (ranked rate floor) xs y r first low)
+    by false over = let t = compared rate y r in (Some (better rate r y), best_with_one rate floor xs y r t.0 first over t.1)
 
 -- where nothing is best, all are too low
 all_low : (rate : Activation → ℤ) (floor : ℤ) (xs : List Activation) → find (is_best rate floor xs) xs ≡ None → AllByRecursion (λ a. int_lt (rate a) floor ≡ true) xs
 all_low rate floor xs none =
-    let all = whole rate floor [] xs None (best_none rate floor) in
+    let all = best_with_all rate floor [] xs None (best_none rate floor) in
     all.1.none (all.1.found ∙ none)
 
 module _ {X : Type 0} where

@@ -47,13 +47,13 @@ module _ (e : Entry) (over : if_pending e ≡ None) where
   stays_at a (unfocusing unit) i is = is
   stays_at a refusing i is = is
 
-  stays : (a : Agenda) (change : Change) (n : ℕ) → entry_of a n ≡ Some e → entry_of (changed a change) n ≡ Some e
-  stays a change zero is = absurd cc
-  stays a change (suc i) is = stays_at a change i is
+  entry_stays : (a : Agenda) (change : Change) (n : ℕ) → entry_of a n ≡ Some e → entry_of (changed a change) n ≡ Some e
+  entry_stays a change zero is = absurd cc
+  entry_stays a change (suc i) is = stays_at a change i is
 
   pub stays_after : (changes : List Change) (a : Agenda) (n : ℕ) → entry_of a n ≡ Some e → entry_of (after changes a) n ≡ Some e
   stays_after [] a n is = is
-  stays_after (change ∷ changes) a n is = stays_after changes (changed a change) n (stays a change n is)
+  stays_after (change ∷ changes) a n is = stays_after changes (changed a change) n (entry_stays a change n is)
 
 pub executed_stays : (a : Agenda) (changes : List Change) (n : ℕ) → status a n ≡ Some statuses.Executed → status (after changes a) n ≡ Some statuses.Executed
 executed_stays a changes n is = ap (option_map status_of) (stays_after executed refl changes a n (executed_entry (entry_of a n) is))

@@ -35,9 +35,9 @@ at_number n m = by (m == n) refl
         unequal false = refl
 
 -- what is found under a number
-pub found : (n : ℕ) (es : Entries) → AreKeyed es → lookup (is_at (nat_cmp n)) es ≡ find (has_number n) (values_of es)
-found n [] keyed = refl
-found n (e ∷ es) keyed = ap (λ b. cond b (Some e.1) (lookup (is_at (nat_cmp n)) es)) (at_number n e.0 ∙ ap (λ m. m == n) keyed.0) ∙ ap (cond (has_number n e.1) (Some e.1)) (found n es keyed.1)
+pub lookup_is_find : (n : ℕ) (es : Entries) → AreKeyed es → lookup (is_at (nat_cmp n)) es ≡ find (has_number n) (values_of es)
+lookup_is_find n [] keyed = refl
+lookup_is_find n (e ∷ es) keyed = ap (λ b. cond b (Some e.1) (lookup (is_at (nat_cmp n)) es)) (at_number n e.0 ∙ ap (λ m. m == n) keyed.0) ∙ ap (cond (has_number n e.1) (Some e.1)) (lookup_is_find n es keyed.1)
 
 -- the keys are the numbers
 pub keys_are : (es : Entries) → AreKeyed es → keys_of es ≡ map number_of (values_of es)

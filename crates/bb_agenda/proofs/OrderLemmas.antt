@@ -27,8 +27,8 @@ changed_at (x ∷ xs) (suc i) o (suc s) r lt = rw (after_both i s) (changed_at x
 nothing_ranked : (orders : List (BTreeSet Rank)) (i : ℕ) (r : Rank) → slice_get orders i ≡ None → is_ranked orders i r ≡ false
 nothing_ranked orders i r none = ap (λ o. option_map_or (λ x. contains rank_cmp x r) o false) none
 
-there : (orders : List (BTreeSet Rank)) (i : ℕ) (o : BTreeSet Rank) (r : Rank) → slice_get orders i ≡ Some o → is_ranked orders i r ≡ contains rank_cmp o r
-there orders i o r is = ap (λ x. option_map_or (λ x. contains rank_cmp x r) x false) is
+is_ranked_contains : (orders : List (BTreeSet Rank)) (i : ℕ) (o : BTreeSet Rank) (r : Rank) → slice_get orders i ≡ Some o → is_ranked orders i r ≡ contains rank_cmp o r
+is_ranked_contains orders i o r is = ap (λ x. option_map_or (λ x. contains rank_cmp x r) x false) is
 
 -- a change of the order of one source
 changed : (b : Bool) (orders : List (BTreeSet Rank)) (i : ℕ) (rank : Rank) (o p : BTreeSet Rank) → slice_get orders i ≡ Some o → Updates rank_cmp o p rank b
@@ -36,7 +36,7 @@ changed : (b : Bool) (orders : List (BTreeSet Rank)) (i : ℕ) (rank : Rank) (o 
 changed b orders i rank o p is update s r = changed_at orders i p s r (slice_get_within orders i o is) ∙ by (i == s) refl
   where
     by : (t : Bool) → (i == s) ≡ t → cond t (contains rank_cmp p r) (is_ranked orders s r) ≡ cond (t && same_rank rank r) b (is_ranked orders s r)
-    by true e = update.0 r ∙ ap (cond (same_rank rank r) b) (sym (subst (λ n. is_ranked orders n r ≡ contains rank_cmp o r) (eqb-true i s e) (there orders i o r is)))
+    by true e = update.0 r ∙ ap (cond (same_rank rank r) b) (sym (subst (λ n. is_ranked orders n r ≡ contains rank_cmp o r) (eqb-true i s e) (is_ranked_contains orders i o r is)))
     by false e = refl
 
 pub changed_more : (orders : List (BTreeSet Rank)) (i : ℕ) (rank : Rank) (o p : BTreeSet Rank) → slice_get orders i ≡ Some o → Updates rank_cmp o p rank true

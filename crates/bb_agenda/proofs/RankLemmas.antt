@@ -60,8 +60,8 @@ has_rank s r a = is_of s a && same_rank r (rank_of a)
 abbrev pub ranks_as : Activation → ℕ → Rank → Bool
 ranks_as a s r = a.source == s && same_rank (rank_of a) r
 
-turned : (a : Activation) (s : ℕ) (r : Rank) → has_rank s r a ≡ ranks_as a s r
-turned a s r = ap (λ b. is_of s a && b) (same_back r (rank_of a))
+has_rank_ranks : (a : Activation) (s : ℕ) (r : Rank) → has_rank s r a ≡ ranks_as a s r
+has_rank_ranks a s r = ap (λ b. is_of s a && b) (same_back r (rank_of a))
 
 ranks_not : (a : Activation) (s : ℕ) (r : Rank) → (a.number ≡ r.number → ⊥) → ranks_as a s r ≡ false
 ranks_not a s r apart = ap (λ b. a.source == s && b) (other_rank (rank_of a) r apart) ∙ and_false (a.source == s)
@@ -103,7 +103,7 @@ module _ (xs : List Activation) (os : List (BTreeSet Rank)) (k : AreRanked xs os
             (λ h is.
             let none = none_yet r.number is in
             let found : find (has_number r.number) (xs ++ a ∷ []) ≡ Some a = find-append (has_number r.number) xs (a ∷ []) ∙ ap (λ o. option_or o (find (has_number r.number) (a ∷ []))) none ∙ ap (λ b. cond b (Some a) None) h in
-            ap (cond (ranks_as a s r) true) (k.ranked s r ∙ ap (if_found s r) none) ∙ on_true (ranks_as a s r) ∙ sym (turned a s r) ∙ ap (if_found s r) (sym found))
+            ap (cond (ranks_as a s r) true) (k.ranked s r ∙ ap (if_found s r) none) ∙ on_true (ranks_as a s r) ∙ sym (has_rank_ranks a s r) ∙ ap (if_found s r) (sym found))
             (λ h apart.
             let found : find (has_number r.number) (xs ++ a ∷ []) ≡ find (has_number r.number) xs =
             find-append (has_number r.number) xs (a ∷ []) ∙ ap (option_or (find (has_number r.number) xs)) (ap (λ b. cond b (Some a) None) h) ∙ or_none (find (has_number r.number) xs) in
@@ -118,8 +118,8 @@ module _ (xs : List Activation) (os : List (BTreeSet Rank)) (k : AreRanked xs os
     own : a.number ≡ n
     own = eqb-true a.number n (found_passes (has_number n) xs a found)
 
-    here : (s : ℕ) (r : Rank) → a.number ≡ r.number → is_ranked os s r ≡ ranks_as a s r
-    here s r is = k.ranked s r ∙ ap (if_found s r) (subst (λ m. find (has_number m) xs ≡ Some a) (sym own ∙ is) found) ∙ turned a s r
+    is_ranked_ranks : (s : ℕ) (r : Rank) → a.number ≡ r.number → is_ranked os s r ≡ ranks_as a s r
+    is_ranked_ranks s r is = k.ranked s r ∙ ap (if_found s r) (subst (λ m. find (has_number m) xs ≡ Some a) (sym own ∙ is) found) ∙ has_rank_ranks a s r
 
     differs : (r : Rank) → (a.number ≡ r.number → ⊥) → (r.number == n) ≡ false
     differs r apart = ne_eqb r.number n (λ e. apart (own ∙ sym e))
@@ -130,7 +130,7 @@ module _ (xs : List Activation) (os : List (BTreeSet Rank)) (k : AreRanked xs os
         at : (s : ℕ) (r : Rank) → ranked_less os a.source (rank_of a) s r ≡ if_found s r (find (has_number r.number) (filter (other_than n) xs))
         at s r = by_number a r _
             (λ h is.
-            ap (cond (ranks_as a s r) false) (here s r is) ∙ cond_off (ranks_as a s r)
+            ap (cond (ranks_as a s r) false) (is_ranked_ranks s r is) ∙ cond_off (ranks_as a s r)
             ∙ ap (if_found s r) (sym (subst (λ m. find (has_number m) (filter (other_than n) xs) ≡ None) (sym own ∙ is) (not_found_less n xs))))
             (λ h apart.
             ap (λ b. cond b false (is_ranked os s r)) (ranks_not a s r apart) ∙ k.ranked s r ∙ ap (if_found s r) (sym (found_less n r.number xs (differs r apart))))
@@ -159,8 +159,8 @@ module _ (xs : List Activation) (os : List (BTreeSet Rank)) (k : AreRanked xs os
             (λ h is.
             let there : find (has_number r.number) (map (rebased n base) xs) ≡ Some b =
             found_rebased n r.number base xs ∙ ap (option_map (rebased n base)) (subst (λ m. find (has_number m) xs ≡ Some a) (sym own ∙ is) found) ∙ ap (λ t. Some (based_at (cond t base a.base) a)) (eq-eqb a.number n own) in
-            ap (λ t. cond (ranks_as a s r) false (cond (ranks_as b s r) true t)) (here s r is) ∙ both s r (ranks_as a s r) (ranks_as b s r) refl refl
-            ∙ sym (turned b s r) ∙ ap (if_found s r) (sym there))
+            ap (λ t. cond (ranks_as a s r) false (cond (ranks_as b s r) true t)) (is_ranked_ranks s r is) ∙ both s r (ranks_as a s r) (ranks_as b s r) refl refl
+            ∙ sym (has_rank_ranks b s r) ∙ ap (if_found s r) (sym there))
             (λ h apart.
             let others : (c : Activation) → find (has_number r.number) xs ≡ Some c → has_number n c ≡ false = λ c e. ne_eqb c.number n (λ same. apart (own ∙ sym same ∙ eqb-true c.number r.number (found_passes (has_number r.number) xs c e))) in
             ap (λ t. cond t false (cond (ranks_as b s r) true (is_ranked os s r))) (ranks_not a s r apart)

@@ -19,9 +19,9 @@ has found n = list_any (λ m. m == n) found
 pub has_filter : (p : ℕ → Bool) (xs : List ℕ) (n : ℕ) → has (filter p xs) n ≡ (p n && has xs n)
 has_filter p xs n = any-filter_same (λ m. m == n) p (p n) (λ k e. ap p ((Decides-eqb k n).0 e)) xs
 
-both : (a b : Bool) → a ≡ true → b ≡ true → (a && b) ≡ true
-both true b e f = f
-both false b e f = absurd cc
+and_both : (a b : Bool) → a ≡ true → b ≡ true → (a && b) ≡ true
+and_both true b e f = f
+and_both false b e f = absurd cc
 
 or_implied : (a b u v : Bool) → (a ≡ true → b ≡ true) → (u ≡ true → v ≡ true) → (a || u) ≡ true → (b || v) ≡ true
 or_implied true true u v h k any = refl
@@ -75,8 +75,8 @@ filter_short p (x ∷ xs) = let le = short_by x (p x) (filter p xs) xs (filter_s
 -- ---- a step
 
 module _ (leads : ℕ → ℕ → Bool) (all : List ℕ) where
-  kept : (found : List ℕ) (n : ℕ) → has found n ≡ true → is_reached leads found n ≡ true
-  kept found n there = any_implied (λ m. m == n) (λ m. m == n || leads m n) (λ m e. rw (e) refl) found there
+  found_is_reached : (found : List ℕ) (n : ℕ) → has found n ≡ true → is_reached leads found n ≡ true
+  found_is_reached found n there = any_implied (λ m. m == n) (λ m. m == n || leads m n) (λ m e. rw (e) refl) found there
 
   pub reaches : (found : List ℕ) (m n : ℕ) → has found m ≡ true → leads m n ≡ true → is_reached leads found n ≡ true
   reaches found m n there led =
@@ -92,8 +92,8 @@ module _ (leads : ℕ → ℕ → Bool) (all : List ℕ) where
 
   part_grows : (found : List ℕ) → IsPart found → (found ≡ steps found) ⊎ (length found < length (steps found))
   part_grows found part = subst (λ f. (f ≡ steps found) ⊎ (length f < length (steps found))) (sym part.is)
-      (filter_grows part.test (is_reached leads found) all (λ n there passes. kept found n
-      (ap (λ f. has f n) part.is ∙ has_filter part.test all n ∙ both (part.test n) (has all n) passes there)))
+      (filter_grows part.test (is_reached leads found) all (λ n there passes. found_is_reached found n
+      (ap (λ f. has f n) part.is ∙ has_filter part.test all n ∙ and_both (part.test n) (has all n) passes there)))
 
   grown_part : (found : List ℕ) → IsPart (steps found)
   grown_part found = record { test = is_reached leads found; is = refl }
@@ -165,7 +165,7 @@ module _ (leads : ℕ → ℕ → Bool) (all : List ℕ) where
     pub closure_closed : (m n : ℕ) → has (closure leads all first) m ≡ true → leads m n ≡ true → has all n ≡ true → has (closure leads all first) n ≡ true
     closure_closed m n there led among =
         ap (λ f. has f n) still ∙ has_filter (is_reached leads (closure leads all first)) all n
-        ∙ both (is_reached leads (closure leads all first) n) (has all n) (reaches (closure leads all first) m n there led) among
+        ∙ and_both (is_reached leads (closure leads all first) n) (has all n) (reaches (closure leads all first) m n there led) among
 
     part_within : (found : List ℕ) → IsPart found → (n : ℕ) → has found n ≡ true → has all n ≡ true
     part_within found part n there = and_second (part.test n) (has all n) (sym (ap (λ f. has f n) part.is ∙ has_filter part.test all n) ∙ there)
@@ -179,22 +179,22 @@ module _ (leads : ℕ → ℕ → Bool) (all : List ℕ) where
     holds_on zero found there among = there
     holds_on (suc k) found there among =
         holds_on k (steps found) (has_filter (is_reached leads found) all first
-        ∙ both (is_reached leads found first) (has all first) (kept found first there) among) among
+        ∙ and_both (is_reached leads found first) (has all first) (found_is_reached found first there) among) among
 
     -- its first number is in it
     pub closure_first : has all first ≡ true → has (closure leads all first) first ≡ true
     unfolding closure
     closure_first among =
-        holds_on (length all) begin (has_filter (λ n. n == first) all first ∙ both (first == first) (has all first) (eq-eqb first first refl) among) among
+        holds_on (length all) begin (has_filter (λ n. n == first) all first ∙ and_both (first == first) (has all first) (eq-eqb first first refl) among) among
 
-    begins : (P : ℕ → Type 0) → P first → (m : ℕ) → has begin m ≡ true → P m
-    begins P holds m there =
+    begin_has_first : (P : ℕ → Type 0) → P first → (m : ℕ) → has begin m ≡ true → P m
+    begin_has_first P holds m there =
         subst P (sym ((Decides-eqb m first).0 (and_first (m == first) (has all m) (sym (has_filter (λ n. n == first) all m) ∙ there)))) holds
 
     -- what holds of the first number, and with each of a number of all to which that leads, holds of the set
     pub closure_least : (P : ℕ → Type 0) → P first → ((m n : ℕ) → P m → leads m n ≡ true → P n) → (n : ℕ) → has (closure leads all first) n ≡ true → P n
     unfolding closure
-    closure_least P holds next n there = run_holds P next (length all) begin (begins P holds) n there
+    closure_least P holds next n there = run_holds P next (length all) begin (begin_has_first P holds) n there
 
     -- the set stands in the order of all
     pub closure_rising : IsStrictlyIncreasing all → IsStrictlyIncreasing (closure leads all first)

@@ -40,5 +40,5 @@ into_map_end f front items total none so_far =
 pub next_one : {A : Type 0} (all : List A) (i : ℕ) (a : A) → i < length all → a ≡ get_or all i a → drop i all ≡ a ∷ drop (i + 1) all
 next_one all i a lt is = rw (drop-cons all i a lt, ← is, add-one) refl
 
-pub none_left : {A : Type 0} (all : List A) (i : ℕ) → length all ≤ i → length (drop i all) ≡ 0
-none_left all i le = ap length (drop_all i all le)
+pub length_drop_all : {A : Type 0} (all : List A) (i : ℕ) → length all ≤ i → length (drop i all) ≡ 0
+length_drop_all all i le = ap length (drop_all i all le)

@@ -49,12 +49,12 @@ pub record Marked {S A : Type 0} (P : S → Type 0) (Q : S → A → Type 0) (t 
   pub all : AllByRecursion (Q t) items
 
 -- what one step keeps of another item, all steps keep
-stays : {S A E : Type 0} (P : S → Type 0) (Q : S → A → Type 0) (f : S → A → Result S E) → ((s t : S) (a : A) → P s → f s a ≡ Ok t → P t) → ((s t : S) (a b : A) → P s → f s b ≡ Ok t → Q s a → Q t a) → (a : A) (s t : S) (items : List A) → P s → try_fold f s items ≡ Ok t → Q s a → Q t a
+fold_keeps_known : {S A E : Type 0} (P : S → Type 0) (Q : S → A → Type 0) (f : S → A → Result S E) → ((s t : S) (a : A) → P s → f s a ≡ Ok t → P t) → ((s t : S) (a b : A) → P s → f s b ≡ Ok t → Q s a → Q t a) → (a : A) (s t : S) (items : List A) → P s → try_fold f s items ≡ Ok t → Q s a → Q t a
 unfolding try_fold
-stays P Q f step stable a s t [] p h q = subst (λ u. Q u a) (same_ok s t h) q
-stays P Q f step stable a s t (b ∷ more) p h q =
+fold_keeps_known P Q f step stable a s t [] p h q = subst (λ u. Q u a) (same_ok s t h) q
+fold_keeps_known P Q f step stable a s t (b ∷ more) p h q =
     let one = bind_ok (f s b) (λ next. try_fold f next more) t h in
-    stays P Q f step stable a one.0 t more (step s one.0 b p one.1) one.2 (stable s one.0 a b p one.1 q)
+    fold_keeps_known P Q f step stable a one.0 t more (step s one.0 b p one.1) one.2 (stable s one.0 a b p one.1 q)
 
 pub try_fold_marks : {S A E : Type 0} (P : S → Type 0) (Q : S → A → Type 0) (f : S → A → Result S E) → ((s t : S) (a : A) → P s → f s a ≡ Ok t → P t) → ((s t : S) (a : A) → P s → f s a ≡ Ok t → Q t a) → ((s t : S) (a b : A) → P s → f s b ≡ Ok t → Q s a → Q t a)
     → (s t : S) (items : List A) → P s → try_fold f s items ≡ Ok t → Marked P Q t items
@@ -63,4 +63,4 @@ try_fold_marks P Q f step mark stable s t [] p h = record { kept = subst P (same
 try_fold_marks P Q f step mark stable s t (a ∷ more) p h =
     let one = bind_ok (f s a) (λ next. try_fold f next more) t h in
     let rest = try_fold_marks P Q f step mark stable one.0 t more (step s one.0 a p one.1) one.2 in
-    record { kept = rest.kept; all = (stays P Q f step stable a one.0 t more (step s one.0 a p one.1) one.2 (mark s one.0 a p one.1), rest.all) }
+    record { kept = rest.kept; all = (fold_keeps_known P Q f step stable a one.0 t more (step s one.0 a p one.1) one.2 (mark s one.0 a p one.1), rest.all) }

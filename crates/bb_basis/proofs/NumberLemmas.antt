@@ -10,8 +10,8 @@ use Rattle.std.proofs.lemmas.Bool.Decides.{Decides-eqb, nat_tests}
 pub differs : (c d : ℕ) → (c ≡ d → ⊥) → (c == d) ≡ false
 differs c d other = false_from_ne_true (c == d) (λ e. other ((Decides-eqb c d).0 e))
 
-pub turned : (c d : ℕ) → (d == c) ≡ false → (c == d) ≡ false
-turned c d other = differs c d (λ e. let same : (d == c) ≡ true = (Decides-eqb d c).1 (sym e) in cc)
+pub differ_swapped : (c d : ℕ) → (d == c) ≡ false → (c == d) ≡ false
+differ_swapped c d other = differs c d (λ e. let same : (d == c) ≡ true = (Decides-eqb d c).1 (sym e) in cc)
 
 pub nat_lt_true : (n m : ℕ) → nat_lt n m ≡ true → n < m
 nat_lt_true n m lt = grind (arith, nat_tests)

@@ -2,7 +2,7 @@
 use Rattle.std.proofs.Common.{◌≡◌, ℕ, ◌+◌, ◌<◌, ◌≤◌, List, ◌∷◌, length, get_or, drop, map, sym, ap, ◌∙◌, arith}
 use Rattle.std.proofs.Math.ListN.{get_or-map}
 use Rattle.std.proofs.lemmas.List.{length-map}
-use Rattle.bb_basis.proofs.IntoMapLemmas.{next_one, none_left}
+use Rattle.bb_basis.proofs.IntoMapLemmas.{next_one, length_drop_all}
 
 -- the item that comes next
 pub next_seen : {A B : Type 0} (g : A → B) (xs : List A) (i : ℕ) (a : A) → i < length xs → a ≡ get_or xs i a → drop i (map g xs) ≡ g a ∷ drop (i + 1) (map g xs)
@@ -10,4 +10,4 @@ next_seen g xs i a lt is = next_one (map g xs) i (g a) (omega (arith, length-map
 
 -- the end
 pub none_seen : {A B : Type 0} (g : A → B) (xs : List A) (i : ℕ) → length xs ≤ i → length (drop i (map g xs)) ≡ 0
-none_seen g xs i le = none_left (map g xs) i (omega (arith, length-map xs g))
+none_seen g xs i le = length_drop_all (map g xs) i (omega (arith, length-map xs g))

@@ -12,9 +12,9 @@ use Rattle.bb_pattern.specs.declared.value.DimValue.{DimValue}
 abbrev pub IsWhole : (Dim → Option DimValue) → List Dim → Type 0
 IsWhole h ds = length (filter_map h ds) ≡ length ds
 
-below : (h : Dim → Option DimValue) (ds : List Dim) → length (filter_map h ds) ≤ length ds
-below h [] = omega arith
-below h (d ∷ ds) = by (h d) (below h ds)
+filter_map_shorter : (h : Dim → Option DimValue) (ds : List Dim) → length (filter_map h ds) ≤ length ds
+filter_map_shorter h [] = omega arith
+filter_map_shorter h (d ∷ ds) = by (h d) (filter_map_shorter h ds)
   where
     by : (o : Option DimValue) → length (filter_map h ds) ≤ length ds → length (cons_option o (filter_map h ds)) ≤ suc (length ds)
     by None lt = omega (arith, lt)
@@ -26,11 +26,11 @@ record IsFirst (h : Dim → Option DimValue) (d : Dim) (ds : List Dim) : Type 0 
   is : h d ≡ Some value
   rest : IsWhole h ds
 
-first : (h : Dim → Option DimValue) (d : Dim) (ds : List Dim) → IsWhole h (d ∷ ds) → IsFirst h d ds
-first h d ds whole = by (h d) refl whole
+first_of_whole : (h : Dim → Option DimValue) (d : Dim) (ds : List Dim) → IsWhole h (d ∷ ds) → IsFirst h d ds
+first_of_whole h d ds whole = by (h d) refl whole
   where
     by : (o : Option DimValue) → h d ≡ o → length (cons_option o (filter_map h ds)) ≡ suc (length ds) → IsFirst h d ds
-    by None is long = absurd (let lt = below h ds in omega (arith, long, lt))
+    by None is long = absurd (let lt = filter_map_shorter h ds in omega (arith, long, lt))
     by (Some v) is long = record { value = v; is = is; rest = omega (arith, long) }
 
 module _ (name : List ℕ) (f g : Dim → Option DimValue) (new : Option DimValue)
@@ -100,8 +100,8 @@ module _ (name : List ℕ) (f g : Dim → Option DimValue) (new : Option DimValu
   unfolding IsDistinct
   anew_from [] n i distinct was now at = absurd cc
   anew_from (d ∷ ds) n i distinct was now at =
-      let before = first f d ds was in
-      let after = first g d ds now in
+      let before = first_of_whole f d ds was in
+      let after = first_of_whole g d ds now in
       anew_by d ds n i (named d) refl distinct.0 before after (anew_from ds (n + 1) i distinct.1 before.rest after.rest) at
 
   -- with one, they have the new value there

@@ -168,13 +168,13 @@ module _ (s : Schema) (u : Units) (t : Spaces) (knows : Knows s u t) where
         let was = sym (moves_other n (values_for s set n (spaces_of t n)) t q k other) ∙ is in
         (v, was, knows.told q k v was ∙ ap (λ o. values_by o q k) (sym (other_same k other)))
 
-    stays : (q k : ℕ) (v : List DimValue) → values_in again q k ≡ Some v → Stays q k v
-    stays q k v is = stays_by q k v (eq_by_cmp nat_cmp k n) refl is
+    values_stay : (q k : ℕ) (v : List DimValue) → values_in again q k ≡ Some v → Stays q k v
+    values_stay q k v is = stays_by q k v (eq_by_cmp nat_cmp k n) refl is
 
     pub knows_set : Knows s set again
     knows_set = record {
       spaces = moves_length n (values_for s set n (spaces_of t n)) t ∙ knows.spaces;
-      live = λ q k v is. let p = stays q k v is in live_set k (knows.live q k p.0 p.1);
-      admitted = λ q k v is. let p = stays q k v is in subst (λ o. IsAdmitted s q o) (sym (same_class_of u n slot k value)) (knows.admitted q k p.0 p.1);
-      told = λ q k v is. (stays q k v is).2;
+      live = λ q k v is. let p = values_stay q k v is in live_set k (knows.live q k p.0 p.1);
+      admitted = λ q k v is. let p = values_stay q k v is in subst (λ o. IsAdmitted s q o) (sym (same_class_of u n slot k value)) (knows.admitted q k p.0 p.1);
+      told = λ q k v is. (values_stay q k v is).2;
     }

@@ -2,6 +2,7 @@
 pub use Rattle.bb_board.proofs.ClassLemmas.{same_class_of}
 pub use Rattle.bb_board.proofs.KeepLemmas.{class_there, empty_fits, create_keeps, set_keeps}
 pub use Rattle.bb_board.proofs.LinkLemmas.{MayLink, may_link_facts, link_keeps, unlink_keeps}
+pub use Rattle.bb_board.proofs.SlotLemmas.{find_here, has_among}
 pub use Rattle.bb_board.proofs.SpaceLemmas.{MayEnter, may_enter_facts, enter_keeps, leave_keeps}
 pub use Rattle.bb_board.proofs.DeletionLemmas.{delete_keeps}
 pub use Rattle.bb_board.proofs.StepLemmas.{delete_outlives, delete_named, parts_gone, others_stay}

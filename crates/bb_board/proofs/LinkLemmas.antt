@@ -145,8 +145,8 @@ module _ (s : Schema) (w : World) (sf : schemas.Fits s) (fits : Fits s w) where
       (λ p is. ap (is_live w.units) (sym (far_is e.1 p)) ∙ owner_live_by s link.0.inverse (get w.units.units (near (opposite e.1) p)) is) (pairs_of w.links e.0) (fits.pairs link.0.inverse (e.0, opposite e.1) inverse))
 
   module _ (v : Units) (outlives : Outlives w.units v) (slot : ℕ) (l : Link) (link : link_of s.slots slot ≡ Some l) where
-    within : nat_lt slot (length s.slots) ≡ true
-    within = link_within s sf.coupled slot l link
+    slot_within : nat_lt slot (length s.slots) ≡ true
+    slot_within = link_within s sf.coupled slot l link
 
     inverse_within : nat_lt (inverse_of s.slots slot) (length s.slots) ≡ true
     inverse_within =
@@ -159,10 +159,10 @@ module _ (s : Schema) (w : World) (sf : schemas.Fits s) (fits : Fits s w) where
         (and_from (is_noted s v (event m (class_at w m) two)) true (event_of_live s w v m two fits outlives partner names2) refl)
 
     joining_noted : (n m : ℕ) → is_live w.units n ≡ true → is_live w.units m ≡ true → list_all (is_noted s v) (joining s w n slot m) ≡ true
-    joining_noted n m live partner = two_noted n m (Links slot m) (Links (inverse_of s.slots slot) n) live partner within inverse_within
+    joining_noted n m live partner = two_noted n m (Links slot m) (Links (inverse_of s.slots slot) n) live partner slot_within inverse_within
 
     pub parting_noted : (n m : ℕ) → is_live w.units n ≡ true → is_live w.units m ≡ true → list_all (is_noted s v) (parting s w n slot m) ≡ true
-    parting_noted n m live partner = two_noted n m (Unlink slot m) (Unlink (inverse_of s.slots slot) n) live partner within inverse_within
+    parting_noted n m live partner = two_noted n m (Unlink slot m) (Unlink (inverse_of s.slots slot) n) live partner slot_within inverse_within
 
     pair_noted : (side : Side) (old : Option (ℕ × ℕ)) → ((p : ℕ × ℕ) → old ≡ Some p → (is_live w.units (near side p) && is_live w.units (far side p)) ≡ true) → list_all (is_noted s v) (pair_parting s w side slot old) ≡ true
     pair_noted side None live = refl

@@ -189,9 +189,9 @@ module _ (n : ℕ) where
     abbrev among : ℕ → List ℕ → Bool
     among q spaces = list_any (λ x. eqb x q) spaces
 
-    later : (x q : ℕ) (xs : List ℕ) (v : List DimValue) → eqb x q ≡ false → (among q (x ∷ xs) ≡ true) ⊎ (v ≡ present q) → (among q xs ≡ true) ⊎ (v ≡ present q)
-    later x q xs v other (inl in_list) = inl (rw other at in_list)
-    later x q xs v other (inr is) = inr is
+    among_later : (x q : ℕ) (xs : List ℕ) (v : List DimValue) → eqb x q ≡ false → (among q (x ∷ xs) ≡ true) ⊎ (v ≡ present q) → (among q xs ≡ true) ⊎ (v ≡ present q)
+    among_later x q xs v other (inl in_list) = inl (rw other at in_list)
+    among_later x q xs v other (inr is) = inr is
 
     -- what is to be shown of the spaces that are left
     abbrev AreTold : List ℕ → ℕ → Type 0
@@ -203,7 +203,7 @@ module _ (n : ℕ) where
     told_next x xs t q v rest there in_list (inl p) =
         rest (after_moved t x n (present x)) (present q) (subst (λ y. values_in (after_moved t y n (present y)) q n ≡ Some (present q)) (sym p.1) (one_told (present q) v t q there)) (inr refl)
     told_next x xs t q v rest there in_list (inr p) =
-        rest (after_moved t x n (present x)) v (apart_same (present x) t x q n (λ e. p.1 (sym e)) ∙ there) (later x q xs v p.0 in_list)
+        rest (after_moved t x n (present x)) v (apart_same (present x) t x q n (λ e. p.1 (sym e)) ∙ there) (among_later x q xs v p.0 in_list)
 
     -- a member of one of the spaces has what this one was told
     pub moves_told : (spaces : List ℕ) (q : ℕ) → AreTold spaces q

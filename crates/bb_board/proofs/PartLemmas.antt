@@ -168,8 +168,8 @@ module _ (s : Schema) (w : World) where
       among_whole : is_of found whole ≡ true
       among_whole = any_passes_from_place (λ k. k == whole) found place whole at (eq-eqb whole whole refl)
 
-      stays : (k : ℕ) → is_of found k ≡ true → is_of more k ≡ true
-      stays k there = of_all found (parts_of s w whole) k ∙ ap (λ b. b || is_of (parts_of s w whole) k) there
+      more_has_found : (k : ℕ) → is_of found k ≡ true → is_of more k ≡ true
+      more_has_found k there = of_all found (parts_of s w whole) k ∙ ap (λ b. b || is_of (parts_of s w whole) k) there
 
       sound_by : (m : ℕ) (b : Bool) → is_of found m ≡ b → (b || is_of (parts_of s w whole) m) ≡ true → is_of (with_parts s w n) m ≡ true
       sound_by m true is any = are.sound m is
@@ -178,7 +178,7 @@ module _ (s : Schema) (w : World) where
           (live_among w.units m ∙ all_at (is_live w.units) (parts_of s w whole) m (one_live whole) any)
 
       closed_by : (m k : ℕ) (b : Bool) → is_of (take place found) m ≡ b → (b || whole == m) ≡ true → has_part s w m k ≡ true → is_of more k ≡ true
-      closed_by m k true is any led = stays k (are.closed m k is led)
+      closed_by m k true is any led = more_has_found k (are.closed m k is led)
       closed_by m k false is any led =
           let part : is_of (parts_of s w whole) k ≡ true = sym (part_of whole k) ∙ (ap (λ j. has_part s w j k) (eqb-true whole m any) ∙ led) in
           of_all found (parts_of s w whole) k ∙ (ap (λ b. is_of found k || b) part ∙ or_true (is_of found k))
@@ -187,7 +187,7 @@ module _ (s : Schema) (w : World) where
       parts_further = record {
         distinct = distinct_all found (parts_of s w whole) are.distinct;
         live = passes_all (is_live w.units) found (parts_of s w whole) are.live (one_live whole);
-        first = stays n are.first;
+        first = more_has_found n are.first;
         sound = λ m there. sound_by m (is_of found m) refl (sym (of_all found (parts_of s w whole) m) ∙ there);
         closed = λ m k there led. closed_by m k (is_of (take place found) m) refl
             (sym (ap (λ l. is_of l m) one_further ∙ list_any-last (λ j. j == m) (take place found) whole) ∙ there) led;

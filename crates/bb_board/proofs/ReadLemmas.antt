@@ -27,7 +27,7 @@ use Rattle.bb_pattern.specs.Values.{dim_value_of, kind_of_operand}
 use Rattle.bb_space.specs.Spaces.{values_in, is_member, after_moves}
 use Rattle.bb_query.specs.PresentValues.{value_on, values_on, present_values}
 use Rattle.bb_query.specs.Whole.{Admits, kind_on}
-use Rattle.bb_query.proofs.Laws.{whole}
+use Rattle.bb_query.proofs.Laws.{present_kinds}
 use Rattle.bb_board.specs.State.{World}
 use Rattle.bb_board.specs.World.{class_at}
 use Rattle.bb_board.specs.Fits.{Fits}
@@ -86,11 +86,11 @@ module _ (s : Schema) (w : World) (sf : schemas.Fits s) (fits : Fits s w) (n slo
   abbrev Found : Type 0
   Found = (t : Slot) × (slice_get s.slots slot ≡ Some t)
 
-  found : Found
-  found = slot_there s.slots slot (slot_within s w n slot value fits takes_it)
+  slot_found : Found
+  slot_found = slot_there s.slots slot (slot_within s w n slot value fits takes_it)
 
   abbrev name : List ℕ
-  name = found.0.name
+  name = slot_found.0.name
 
   -- ---- a dimension
 
@@ -104,7 +104,7 @@ module _ (s : Schema) (w : World) (sf : schemas.Fits s) (fits : Fits s w) (n slo
   read_by d None is apart = ap (option_and_then (λ m. option_and_then dim_value_of (value_of later n m))) is ∙ sym (ap (option_and_then (λ m. option_and_then dim_value_of (value_of w.units n m))) is)
   read_by d (Some read) is apart =
       on_another slot value w.units n s class d read is (λ e.
-      absurd (let same = name_of_named s class slot found.0 d.name (is ∙ ap (λ m. Some m) e) found.1 in
+      absurd (let same = name_of_named s class slot slot_found.0 d.name (is ∙ ap (λ m. Some m) e) slot_found.1 in
       let f : true ≡ false = sym ((bytes_eq-Decides d.name name).1 same) ∙ apart in cc))
       ∙ sym (ap (option_and_then (λ m. option_and_then dim_value_of (value_of w.units n m))) is)
 
@@ -116,7 +116,7 @@ module _ (s : Schema) (w : World) (sf : schemas.Fits s) (fits : Fits s w) (n slo
   own : (d : Dim) → bytes_eq d.name name ≡ true → now d ≡ dim_value_of value
   own d same =
       on_the_slot slot value w.units n s class d slot
-      (ap (slot_named s class) ((bytes_eq-Decides d.name name).0 same) ∙ own_name s class slot found.0 sf (class_there s w n fits live).1 among found.1) refl has
+      (ap (slot_named s class) ((bytes_eq-Decides d.name name).0 same) ∙ own_name s class slot slot_found.0 sf (class_there s w n fits live).1 among slot_found.1) refl has
 
   -- ---- a space
 
@@ -140,13 +140,13 @@ module _ (s : Schema) (w : World) (sf : schemas.Fits s) (fits : Fits s w) (n slo
     present_is = ap (λ o. option_map_or (λ c. values_on s later n c dims) o []) later_class
 
     whole_before : IsWhole before dims
-    whole_before = as_many (filter_map before dims) dims (ap (map kind_of_operand) (sym told_is ∙ fits.spaces.told q n told is) ∙ whole s sf w.units n q fits.units live admits_now)
+    whole_before = as_many (filter_map before dims) dims (ap (map kind_of_operand) (sym told_is ∙ fits.spaces.told q n told is) ∙ present_kinds s sf w.units n q fits.units live admits_now)
 
     whole_now : IsWhole now dims
-    whole_now = as_many (filter_map now dims) dims (ap (map kind_of_operand) (sym present_is) ∙ whole s sf later n q later_fits later_live admits_later)
+    whole_now = as_many (filter_map now dims) dims (ap (map kind_of_operand) (sym present_is) ∙ present_kinds s sf later n q later_fits later_live admits_later)
 
     reading_is : reading s slot q ≡ position (λ d. bytes_eq d.name name) dims
-    reading_is = ap (λ o. option_and_then (λ text. position (λ d. bytes_eq d.name text) dims) (option_map (λ t. t.name) o)) found.1
+    reading_is = ap (λ o. option_and_then (λ text. position (λ d. bytes_eq d.name text) dims) (option_map (λ t. t.name) o)) slot_found.1
 
     -- one that does not read the slot has what it should
     quiet_here : reading s slot q ≡ None → told ≡ present_values s later n q

@@ -8,6 +8,7 @@ use Rattle.std.specs.Str.{bytes_eq}
 use Rattle.std.proofs.lemmas.Bool.{eqb-true, eq-eqb}
 use Rattle.std.proofs.lemmas.Option.{slice_get-map}
 use Rattle.std.proofs.lemmas.Slice.Eq.{bytes_eq-Decides}
+use Rattle.bb_basis.proofs.BoolLemmas.{and_first}
 use Rattle.bb_schema_classes.specs.declared.class.Class.{Class}
 use Rattle.bb_schema_classes.specs.Inheritance.{is_among}
 use Rattle.bb_schema.specs.declared.slot.Slot.{Slot}
@@ -43,7 +44,7 @@ module _ (p : ℕ → Bool) where
   here_by x xs n false false is same passes rest h = rest h
 
   -- where one of them passes, one is found
-  find_here : (xs : List ℕ) (n : ℕ) → p n ≡ true → is_among xs n ≡ true → (m : ℕ) × (find p xs ≡ Some m)
+  pub find_here : (xs : List ℕ) (n : ℕ) → p n ≡ true → is_among xs n ≡ true → (m : ℕ) × (find p xs ≡ Some m)
   unfolding is_among
   find_here [] n passes h = absurd cc
   find_here (x ∷ xs) n passes h = here_by x xs n (p x) (x == n) refl refl passes (find_here xs n passes) h
@@ -87,10 +88,6 @@ module _ (s : Schema) (w : World) (fits : Fits s w) (n slot : ℕ) where
       by_class : (o : Option Class) → option_map_or (λ slots. slots) (option_map (λ (k : Class). k.slots) o) [] ≡ option_map_or (λ k. k.slots) o []
       by_class None = refl
       by_class (Some k) = refl
-
-  and_first : (a b : Bool) → (a && b) ≡ true → a ≡ true
-  and_first true b h = refl
-  and_first false b h = h
 
   has_by : (o : Option Unit) → option_map_or (λ x. list_any (λ t. t == slot) (layouts.slots_of w.units.layout x.class) && is_some (default_at w.units.layout.defaults slot)) o false ≡ true
       → list_any (λ t. t == slot) (layouts.slots_of w.units.layout (unwrap_or (option_map (λ x. x.class) o) 0)) ≡ true

@@ -42,9 +42,9 @@ record IsFound (p : ℕ → Bool) (xs : List ℕ) : Type 0 where
   there : has xs one ≡ true
   passes : p one ≡ true
 
-found : (p : ℕ → Bool) (xs : List ℕ) → list_any p xs ≡ true → IsFound p xs
-found p [] any = absurd cc
-found p (x ∷ xs) any = by (p x) refl any (found p xs)
+any_is_found : (p : ℕ → Bool) (xs : List ℕ) → list_any p xs ≡ true → IsFound p xs
+any_is_found p [] any = absurd cc
+any_is_found p (x ∷ xs) any = by (p x) refl any (any_is_found p xs)
   where
     by : (b : Bool) → p x ≡ b → (b || list_any p xs) ≡ true → (list_any p xs ≡ true → IsFound p xs) → IsFound p (x ∷ xs)
     by true is h rest = record { one = x; there = ap (λ t. t || has xs x) (eq-eqb x x refl); passes = is }
@@ -134,7 +134,7 @@ module _ (s : Schema) (w : World) (sf : schemas.Fits s) (fits : Fits s w) where
         let live = live_by (get w.units.units m) g.own g.is in
         let its = class_there s w m fits live in
         let same : class_at w m ≡ g.own = (let both : Some (class_at w m) ≡ Some g.own = sym its.0 ∙ g.is in cc) in
-        let f = found (λ slot. owns s slot && has (ends w.links m slot) k) (slots_of s (class_at w m)) led in
+        let f = any_is_found (λ slot. owns s slot && has (ends w.links m slot) k) (slots_of s (class_at w m)) led in
         let parts = and_parts (owns s f.one) (has (ends w.links m f.one) k) f.passes in
         let o = owning_of f.one parts.0 in
         let part = part_of m f.one o k parts.1 in

@@ -22,8 +22,10 @@ use crate::note::Said;
 use crate::reason::Reason;
 use crate::state::State;
 use bb_basis::Memory;
-use bb_query::{DimValue, Query, count, find};
-use bb_schema::{ClassId, Schema, SharedSchema, SlotId, SpaceId, UnitId, Value};
+use bb_pattern::{DimValue, Query};
+use bb_query::{count, find};
+use bb_schema::{Schema, SharedSchema, SpaceId, UnitId};
+use bb_schema_classes::{ClassId, SlotId, Value};
 use std::alloc::Global;
 use std::marker::Model;
 

@@ -18,7 +18,8 @@ use crate::found::Found;
 use crate::note::Note;
 use crate::state::State;
 use bb_basis::Memory;
-use bb_schema::{Schema, Side, SlotId, UnitId};
+use bb_schema::{Schema, Side, UnitId};
+use bb_schema_classes::SlotId;
 use std::alloc::Global;
 
 // A unit to delete, and the units deleted before it, in ascending number.

@@ -3,7 +3,8 @@
 ghost use Rattle.std.specs.Prelude.{◌≡◌};
 ghost use Rattle.bb_board.specs.Events.{kind_of, unit_of};
 
-use bb_schema::{ClassId, SlotId, SpaceId, UnitId};
+use bb_schema::{SpaceId, UnitId};
+use bb_schema_classes::{ClassId, SlotId};
 
 /// What changed of a unit (GBBopen Reference Manual, events).
 #[derive(Clone, Copy, Debug, PartialEq, Eq)]

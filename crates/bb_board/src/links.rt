@@ -12,7 +12,8 @@ use crate::note::Note;
 use crate::state::State;
 use bb_basis::Memory;
 use bb_links::Taken;
-use bb_schema::{ClassId, Schema, Side, SlotId, UnitId};
+use bb_schema::{Schema, Side, UnitId};
+use bb_schema_classes::{ClassId, SlotId};
 use std::alloc::Global;
 
 // Returns the pair that the unit at the side loses, if any.

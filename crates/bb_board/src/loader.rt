@@ -13,7 +13,8 @@ use crate::board::Board;
 use crate::unit_names::UnitNames;
 use crate::units_fault::{UnitsFault, UnitsFlaw, placed};
 use crate::values::set_values;
-use bb_schema::{ClassId, Schema, UnitId};
+use bb_schema::{Schema, UnitId};
+use bb_schema_classes::ClassId;
 use bb_schema_form::{
     DocumentFault, FirstLinkEntry, ListKey, MemberEntry, UnitEntry, UnitsDocument,
 };

@@ -3,7 +3,8 @@
 
 use crate::event::Event;
 use bb_basis::Items;
-use bb_schema::{UnitId, Value};
+use bb_schema::UnitId;
+use bb_schema_classes::Value;
 
 /// A value that is said: one that a slot could hold, or a unit.
 pub enum Said {

@@ -12,7 +12,8 @@ ghost use Rattle.bb_board.specs.Load.{with_value, with_values};
 use crate::board::Board;
 use crate::units_fault::{UnitsFault, UnitsFlaw};
 use bb_basis::Text;
-use bb_schema::{ClassId, Kind, Schema, SlotId, UnitId, Value};
+use bb_schema::{Schema, UnitId};
+use bb_schema_classes::{ClassId, Kind, SlotId, Value};
 use bb_schema_form::{GivenEntry, GivenValue};
 use std::alloc::{AllocError, Global};
 

@@ -47,9 +47,9 @@ record Begins (t : ℕ) (ks : List ℕ) (vs : Held) : Type 0 where
   is : vs ≡ (t, value) ∷ rest
   keys : keys_of rest ≡ ks
 
-begins : (t : ℕ) (ks : List ℕ) (vs : Held) → keys_of vs ≡ t ∷ ks → Begins t ks vs
-begins t ks [] h = absurd cc
-begins t ks (v ∷ vs) h = let e : v.0 ≡ t = cc in record { value = v.1; rest = vs; is = ap (λ u. (u, v.1) ∷ vs) e; keys = cc }
+begins_with_key : (t : ℕ) (ks : List ℕ) (vs : Held) → keys_of vs ≡ t ∷ ks → Begins t ks vs
+begins_with_key t ks [] h = absurd cc
+begins_with_key t ks (v ∷ vs) h = let e : v.0 ≡ t = cc in record { value = v.1; rest = vs; is = ap (λ u. (u, v.1) ∷ vs) e; keys = cc }
 
 one_held : (t : ℕ) (v : Value) (q : ℕ) → (t ≡ q → ⊥) → value_at ((t, v) ∷ []) q ≡ None
 one_held t v q other = by (t == q) refl
@@ -137,9 +137,9 @@ module _ (seen : Sight) (fits : schemas.Fits seen.schema) (n : ℕ) (x : OneUnit
   abbrev Rest : List ℕ → Type 0
   Rest ss = (done vs : Held) (y : World) → done ++ vs ≡ x.values → keys_of vs ≡ keys_of (unset ss) → IsDistinct nat_eq ss → NoneOf ss done → Sub ss → Has (done ++ unset ss) y → Sets ss y
 
-  goes_on : (t : ℕ) (ss : List ℕ) (y y' : World) → step y t ≡ Ok y' → Sets ss y' → Sets (t ∷ ss) y
+  sets_with_one : (t : ℕ) (ss : List ℕ) (y y' : World) → step y t ≡ Ok y' → Sets ss y' → Sets (t ∷ ss) y
   unfolding try_fold
-  goes_on t ss y y' one rest = (rest.0, ap (λ r. r >>= λ next. try_fold step next ss) one ∙ rest.1, rest.2)
+  sets_with_one t ss y y' one rest = (rest.0, ap (λ r. r >>= λ next. try_fold step next ss) one ∙ rest.1, rest.2)
 
   with_one : (t : ℕ) (ss : List ℕ) (done : Held) (v : Value) → AllByRecursion (λ m. nat_eq t m ≡ false) ss → NoneOf (t ∷ ss) done → NoneOf ss (done ++ (t, v) ∷ [])
   with_one t ss done v apart none u h = lookup_after done ((t, v) ∷ []) u (none u (among_tail t u ss h)) ∙ one_held t v u (not_among t u ss apart h)
@@ -147,7 +147,7 @@ module _ (seen : Sight) (fits : schemas.Fits seen.schema) (n : ℕ) (x : OneUnit
   no_default : (t : ℕ) (ss : List ℕ) (done vs : Held) (y : World) → default_at (layout_of seen.schema).defaults t ≡ None → Rest ss → done ++ vs ≡ x.values → keys_of vs ≡ keys_of (unset (t ∷ ss)) → IsDistinct nat_eq ss → NoneOf (t ∷ ss) done → Sub (t ∷ ss) → Has (done ++ unset (t ∷ ss)) y → Sets (t ∷ ss) y
   no_default t ss done vs y h rest whole keys distinct none sub has =
       let same : unset (t ∷ ss) ≡ unset ss = rw h refl in
-      goes_on t ss y y (given_step t y None (sub t (among_head t ss)) (changed_none t (sym (default_is seen.schema t) ∙ h)))
+      sets_with_one t ss y y (given_step t y None (sub t (among_head t ss)) (changed_none t (sym (default_is seen.schema t) ∙ h)))
       (rest done vs y whole (keys ∙ ap keys_of same) distinct (λ u m. none u (among_tail t u ss m)) (λ u m. sub u (among_tail t u ss m)) (subst (λ e. Has (done ++ e) y) same has))
 
   a_default : (t : ℕ) (ss : List ℕ) (done vs : Held) (y : World) (d : Value) → default_at (layout_of seen.schema).defaults t ≡ Some d → Rest ss → done ++ vs ≡ x.values → keys_of vs ≡ keys_of (unset (t ∷ ss)) → AllByRecursion (λ m. nat_eq t m ≡ false) ss → IsDistinct nat_eq ss → NoneOf (t ∷ ss) done → Sub (t ∷ ss) → Has (done ++ unset (t ∷ ss)) y → Sets (t ∷ ss) y
@@ -156,11 +156,11 @@ module _ (seen : Sight) (fits : schemas.Fits seen.schema) (n : ℕ) (x : OneUnit
       let among : is_among k.slots t ≡ true = sub t (among_head t ss) in
       let absent : value_at done t ≡ None = none t (among_head t ss) in
       let first : keys_of vs ≡ t ∷ keys_of (unset ss) = keys ∙ ap (λ (e : Held). keys_of e) same in
-      let b = begins t (keys_of (unset ss)) vs first in
+      let b = begins_with_key t (keys_of (unset ss)) vs first in
       let all : done ++ (t, b.value) ∷ b.rest ≡ x.values = ap (λ e. done ++ e) (sym b.is) ∙ whole in
       let held : value_at x.values t ≡ Some b.value = ap (λ e. value_at e t) (sym all) ∙ (lookup_after done ((t, b.value) ∷ b.rest) t absent ∙ first_held t b.value b.rest) in
       let z = one_step t d b.value done (unset ss) y among (sym (default_is seen.schema t) ∙ h) held absent (subst (λ e. Has (done ++ e) y) same has) in
-      goes_on t ss y z.0 z.1
+      sets_with_one t ss y z.0 z.1
       (rest (done ++ (t, b.value) ∷ []) b.rest z.0 (append_assoc done ((t, b.value) ∷ []) b.rest ∙ all) b.keys distinct (with_one t ss done b.value apart none) (λ u m. sub u (among_tail t u ss m))
       (subst (λ e. Has e z.0) (sym (append_assoc done ((t, b.value) ∷ []) (unset ss))) z.2))
 

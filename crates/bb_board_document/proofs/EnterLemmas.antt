@@ -120,11 +120,11 @@ module _ (seen : Sight) (schema_fits : schemas.Fits seen.schema) (fits : Fits se
     among_last done space j = list_any-append (eq_by_cmp nat_cmp j) done (space ∷ [])
 
     module _ (start : World) (done : List ℕ) (v : World) (has : Inside start done v) (space : ℕ) (is : is_member seen.world.spaces space n ≡ true) where
-      there : (m : Membership) × (slice_get v.spaces.spaces space ≡ Some m)
-      there = at_within v.spaces.spaces space (let lt = member_within seen.world.spaces space n is in let count = has.count in omega (arith, lt, count))
+      space_there : (m : Membership) × (slice_get v.spaces.spaces space ≡ Some m)
+      space_there = at_within v.spaces.spaces space (let lt = member_within seen.world.spaces space n is in let count = has.count in omega (arith, lt, count))
 
-      within : space < length v.spaces.spaces
-      within = let lt = member_within seen.world.spaces space n is in let count = has.count in omega (arith, lt, count)
+      space_within : space < length v.spaces.spaces
+      space_within = let lt = member_within seen.world.spaces space n is in let count = has.count in omega (arith, lt, count)
 
       was_member : is_member v.spaces space number ≡ among space done
       was_member = ap is_some (has.here space) ∙ by (among space done)
@@ -159,19 +159,19 @@ module _ (seen : Sight) (schema_fits : schemas.Fits seen.schema) (fits : Fits se
       here_by : among space done ≡ false → (j : ℕ) (b : Bool) → (j == space) ≡ b → values_in entered j number ≡ cond (among j done || (b || false)) (Some (values j)) None
       here_by h j true same =
           let e : j ≡ space = eqb-true j space same in
-          rw (e, h) (here_space v.spaces space number (present_values seen.schema v.units number space) there.0 there.1 within (was_member ∙ h)
+          rw (e, h) (here_space v.spaces space number (present_values seen.schema v.units number space) space_there.0 space_there.1 space_within (was_member ∙ h)
           ∙ ap (λ (u : Units). Some (present_values seen.schema u number space)) has.units)
       here_by h j false other =
-          here_other v.spaces space number (present_values seen.schema v.units number space) there.0 there.1 within (was_member ∙ h) j number (λ e. eqb-false j space other (sym e))
+          here_other v.spaces space number (present_values seen.schema v.units number space) space_there.0 space_there.1 space_within (was_member ∙ h) j number (λ e. eqb-false j space other (sym e))
           ∙ (has.here j ∙ ap (λ b. cond b (Some (values j)) None) (sym (or_false (among j done))))
 
       others_by : among space done ≡ false → (j q : ℕ) (b : Bool) → (space == j) ≡ b → (q ≡ number → ⊥) → values_in entered j q ≡ values_in v.spaces j q
       others_by h j q true same other =
           let e : space ≡ j = eqb-true space j same in
           subst (λ i. values_in entered i q ≡ values_in v.spaces i q) e
-          (other_unit v.spaces space number (present_values seen.schema v.units number space) there.0 there.1 within (was_member ∙ h) q other)
+          (other_unit v.spaces space number (present_values seen.schema v.units number space) space_there.0 space_there.1 space_within (was_member ∙ h) q other)
       others_by h j q false apart other =
-          here_other v.spaces space number (present_values seen.schema v.units number space) there.0 there.1 within (was_member ∙ h) j q (eqb-false space j apart)
+          here_other v.spaces space number (present_values seen.schema v.units number space) space_there.0 space_there.1 space_within (was_member ∙ h) j q (eqb-false space j apart)
 
       anew : among space done ≡ false → Inside start (done ++ space ∷ []) (after_enter seen.schema v number space)
       anew h =
@@ -179,15 +179,15 @@ module _ (seen : Sight) (schema_fits : schemas.Fits seen.schema) (fits : Fits se
           record {
             units = ap (λ (x : Units). x) (rw (was_member, h) refl) ∙ has.units;
             links = ap (λ (x : Couples). x) (rw (was_member, h) refl) ∙ has.links;
-            count = ap (λ (t : Spaces). length t.spaces) makes ∙ (count_kept v.spaces space number (present_values seen.schema v.units number space) there.0 there.1 within (was_member ∙ h) ∙ has.count);
+            count = ap (λ (t : Spaces). length t.spaces) makes ∙ (count_kept v.spaces space number (present_values seen.schema v.units number space) space_there.0 space_there.1 space_within (was_member ∙ h) ∙ has.count);
             here = λ j. ap (λ (t : Spaces). values_in t j number) makes
                 ∙ (here_by h j (j == space) refl
                 ∙ ap (λ b. cond b (Some (values j)) None) (sym (among_last done space j ∙ ap (λ b. among j done || (b || false)) (unsigned_tied j space))));
             others = λ j q other. ap (λ (t : Spaces). values_in t j q) makes ∙ (others_by h j q (space == j) refl other ∙ has.others j q other);
           }
 
-      one_more : Inside start (done ++ space ∷ []) (after_enter seen.schema v number space)
-      one_more = by (among space done) refl
+      inside_after_enter : Inside start (done ++ space ∷ []) (after_enter seen.schema v number space)
+      inside_after_enter = by (among space done) refl
         where
           by : (b : Bool) → among space done ≡ b → Inside start (done ++ space ∷ []) (after_enter seen.schema v number space)
           by true h = again h
@@ -216,7 +216,7 @@ module _ (seen : Sight) (schema_fits : schemas.Fits seen.schema) (fits : Fits se
         let after = after_enter seen.schema v number space in
         subst (λ ds. Enters at start v ds (map (member_declared seen n) (space ∷ rest)) more) (append_assoc done (space ∷ []) rest)
         (enters_next at start v after ((done ++ space ∷ []) ++ rest) (member_declared seen n space) (map (member_declared seen n) rest) more (one_member v space has.units all.0)
-        (spaces_walk rest (done ++ space ∷ []) (suc at) start after more all.1 (one_more start done v has space all.0)))
+        (spaces_walk rest (done ++ space ∷ []) (suc at) start after more all.1 (inside_after_enter start done v has space all.0)))
 
   -- ---- all units
 

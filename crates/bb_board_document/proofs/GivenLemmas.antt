@@ -103,8 +103,8 @@ module _ (seen : Sight) (fits : schemas.Fits seen.schema) (n c : ℕ) (k : Class
   pub slot_there : (slot : ℕ) → is_among k.slots slot ≡ true → (t : Slot) × (slice_get seen.schema.slots slot ≡ Some t)
   slot_there slot among = at_within seen.schema.slots slot (all_among (λ m. m < length seen.schema.slots) k.slots slot (recursion_from_All (λ m. m < length seen.schema.slots) k.slots fits_class.slots) among)
 
-  within : c < length seen.schema.classes
-  within = slice_get_within seen.schema.classes c k at
+  class_within : c < length seen.schema.classes
+  class_within = slice_get_within seen.schema.classes c k at
 
   abbrev name_at : (slot : ℕ) → List ℕ
   name_at slot = unwrap_or (name_of_slot seen.schema slot) []
@@ -112,16 +112,16 @@ module _ (seen : Sight) (fits : schemas.Fits seen.schema) (n c : ℕ) (k : Class
   name_is : (slot : ℕ) (t : Slot) → slice_get seen.schema.slots slot ≡ Some t → name_at slot ≡ t.name
   name_is slot t there = ap (λ o. unwrap_or (option_map (λ (x : Slot). x.name) o) []) there
 
-  found : (slot : ℕ) → is_among k.slots slot ≡ true → slot_named seen.schema c (name_at slot) ≡ Some slot
-  found slot among =
+  slot_of_its_name : (slot : ℕ) → is_among k.slots slot ≡ true → slot_named seen.schema c (name_at slot) ≡ Some slot
+  slot_of_its_name slot among =
       let t = slot_there slot among in
       ap (slot_named seen.schema c) (name_is slot t.0 t.1)
-      ∙ slot_back seen.schema fits c slot t.0 within (ap (λ ns. is_among ns slot) class_slots ∙ among) t.1
+      ∙ slot_back seen.schema fits c slot t.0 class_within (ap (λ ns. is_among ns slot) class_slots ∙ among) t.1
 
   -- two slots of the class with one name are one
   same_name : (u slot : ℕ) → is_among k.slots u ≡ true → is_among k.slots slot ≡ true → name_at slot ≡ name_at u → u ≡ slot
   same_name u slot one other same =
-      let e : Some u ≡ Some slot = sym (found u one) ∙ (ap (slot_named seen.schema c) (sym same) ∙ found slot other) in cc
+      let e : Some u ≡ Some slot = sym (slot_of_its_name u one) ∙ (ap (slot_named seen.schema c) (sym same) ∙ slot_of_its_name slot other) in cc
 
   -- ---- each value is for an ordinary slot
 
@@ -134,7 +134,7 @@ module _ (seen : Sight) (fits : schemas.Fits seen.schema) (n c : ℕ) (k : Class
   ordinary_by u ms None among is all = all
   ordinary_by u ms (Some v) among is all =
       put_keys (is_ordinary_in seen.schema c) (name_at u) (value_data seen.schema v) ms
-      (ap (λ o. option_map_or (λ slot. is_some (default_of seen.schema slot)) o false) (found u among) ∙ default_there (default_of seen.schema u) _ v is) all
+      (ap (λ o. option_map_or (λ slot. is_some (default_of seen.schema slot)) o false) (slot_of_its_name u among) ∙ default_there (default_of seen.schema u) _ v is) all
 
   all_ordinary : (us : List ℕ) (ms : Members) → ((u : ℕ) → is_among us u ≡ true → is_among k.slots u ≡ true) → each_key (is_ordinary_in seen.schema c) ms ≡ true → each_key (is_ordinary_in seen.schema c) (fold (with_given seen n) ms us) ≡ true
   all_ordinary [] ms sub all = all

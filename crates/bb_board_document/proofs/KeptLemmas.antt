@@ -88,14 +88,14 @@ module _ (seen : Sight) (schema_fits : schemas.Fits seen.schema) (fits : Fits se
       let number : renamed seen.world e.0 ≡ length pre + 1 = renamed_here seen.world m pre e post refl is in
       omega (arith, low, high, count, number, gapless)
 
-  kept : (n : ℕ) → is_live seen.world.units n ≡ true → renamed seen.world n ≡ n
-  kept n live = let l = lives seen.world n live in number_kept l.placed.pre (n, l.unit) l.placed.post l.placed.is
+  renamed_same : (n : ℕ) → is_live seen.world.units n ≡ true → renamed seen.world n ≡ n
+  renamed_same n live = let l = lives seen.world n live in number_kept l.placed.pre (n, l.unit) l.placed.post l.placed.is
 
   -- ---- what stands under numbers
 
   same_keys : {X : Type 0} (es : List (ℕ × X)) → AllByRecursion (λ (e : ℕ × X). is_live seen.world.units e.0 ≡ true) es → map (λ e. (renamed seen.world e.0, e.1)) es ≡ es
   same_keys [] all = refl
-  same_keys (e ∷ es) all = rw (kept e.0 all.0, same_keys es all.1) refl
+  same_keys (e ∷ es) all = rw (renamed_same e.0 all.0, same_keys es all.1) refl
 
   same_map_kept : {X : Type 0} (t : fin.FinMap nat_cmp X) → ((n : ℕ) (x : X) → fin.get t n ≡ Some x → is_live seen.world.units n ≡ true) → with_new_keys seen.world t ≡ t
   same_map_kept t live = ap (λ es. fin.from_entries es) (same_keys (fin.entries t) (each_live seen.world t live [] (fin.entries t) refl)) ∙ made_again t
@@ -105,7 +105,7 @@ module _ (seen : Sight) (schema_fits : schemas.Fits seen.schema) (fits : Fits se
   same_pairs (p ∷ ps) all =
       let both = and_parts (is_live seen.world.units p.0 && is_live seen.world.units p.1) (list_all (λ (q : ℕ × ℕ). is_live seen.world.units q.0 && is_live seen.world.units q.1) ps) all in
       let ends = and_parts (is_live seen.world.units p.0) (is_live seen.world.units p.1) both.0 in
-      rw (kept p.0 ends.0, kept p.1 ends.1, same_pairs ps both.1) refl
+      rw (renamed_same p.0 ends.0, renamed_same p.1 ends.1, same_pairs ps both.1) refl
 
   same_couple : (i slot : ℕ) (k : Couple) → IsTold seen schema_fits fits i slot k → with_new_pairs seen.world k ≡ k
   same_couple i slot k told =

@@ -123,8 +123,8 @@ module _ (seen : Sight) (schema_fits : schemas.Fits seen.schema) (fits : Fits se
       same_new : (a b : ℕ) → is_live seen.world.units a ≡ true → is_live seen.world.units b ≡ true → (new a == new b) ≡ (a == b)
       same_new a b one other = same_number seen.world a b (lives seen.world a one) (lives seen.world b other)
 
-      one_more : (front : List (ℕ × ℕ)) (p : ℕ × ℕ) (qs : List (ℕ × ℕ)) → front ++ p ∷ qs ≡ k.pairs → linked (new p.0) (new p.1) (so_far front) ≡ so_far (front ++ p ∷ [])
-      one_more front p qs is =
+      linked_with_one : (front : List (ℕ × ℕ)) (p : ℕ × ℕ) (qs : List (ℕ × ℕ)) → front ++ p ∷ qs ≡ k.pairs → linked (new p.0) (new p.1) (so_far front) ≡ so_far (front ++ p ∷ [])
+      linked_with_one front p qs is =
           let parts = all_parts passes front p qs (ap (list_all passes) is ∙ told.pairs) in
           ap (λ ps. with_pairs (no_pairs k.singular) ps)
           (linked_last new (is_live seen.world.units) same_new k told.couple_fits front p qs is (all_weaker passes _ front both_live parts.0) (both_live p parts.1)
@@ -158,7 +158,7 @@ module _ (seen : Sight) (schema_fits : schemas.Fits seen.schema) (fits : Fits se
           let after = after_link seen.schema v (new p.0) slot (new p.1) in
           goes_next at v after (link_declared seen slot p) (map (link_declared seen slot) qs) more (one_link p pair v has.units)
           (pairs_walk qs (front ++ p ∷ []) (suc at) after more (append_assoc front (p ∷ []) qs ∙ is)
-          (subst (λ c. Linked (done ++ c ∷ rest) after) (one_more front p qs is) (linked_by v (new p.0) (new p.1) done (so_far front) rest long has)))
+          (subst (λ c. Linked (done ++ c ∷ rest) after) (linked_with_one front p qs is) (linked_by v (new p.0) (new p.1) done (so_far front) rest long has)))
 
   -- ---- all couples
 
@@ -182,16 +182,16 @@ module _ (seen : Sight) (schema_fits : schemas.Fits seen.schema) (fits : Fits se
     abbrev i : ℕ
     i = length slots_done
 
-    told : IsTold seen schema_fits fits i slot k
-    told = couple_told seen schema_fits fits slots_done slot slots done k ks slots_is is long
+    slot_is_told : IsTold seen schema_fits fits i slot k
+    slot_is_told = couple_told seen schema_fits fits slots_done slot slots done k ks slots_is is long
 
     so_long : length (news done) ≡ i
     so_long = length-map done (with_new_pairs seen.world) ∙ long
 
-    couple_walk : (at : ℕ) (v : World) → Linked (news done ++ empties (slot ∷ slots)) v → Goes i slot k told (news done) (empties slots) so_long at v (map (link_declared seen slot) k.pairs) (declared_links slots)
+    couple_walk : (at : ℕ) (v : World) → Linked (news done ++ empties (slot ∷ slots)) v → Goes i slot k slot_is_told (news done) (empties slots) so_long at v (map (link_declared seen slot) k.pairs) (declared_links slots)
     couple_walk at v has =
-        pairs_walk i slot k told (news done) (empties slots) so_long k.pairs [] at v (declared_links slots) refl
-        (subst (λ g. Linked (news done ++ no_pairs g ∷ empties slots) v) (sym told.singular) has)
+        pairs_walk i slot k slot_is_told (news done) (empties slots) so_long k.pairs [] at v (declared_links slots) refl
+        (subst (λ g. Linked (news done ++ no_pairs g ∷ empties slots) v) (sym slot_is_told.singular) has)
 
     -- and what comes after them
     couple_then : (at : ℕ) (v : World) → Linked (news done ++ empties (slot ∷ slots)) v
@@ -202,7 +202,7 @@ module _ (seen : Sight) (schema_fits : schemas.Fits seen.schema) (fits : Fits se
         let m = more g.next_at g.left (subst (λ cs. Linked cs g.left) (sym whole) g.has) in
         record {
           made = m.made;
-          is = ap (λ ps. try_fold_at (inside lists.Links) (link_after seen.schema names) at v (map (link_declared seen slot) ps ++ declared_links slots)) told.told ∙ (g.same ∙ m.is);
+          is = ap (λ ps. try_fold_at (inside lists.Links) (link_after seen.schema names) at v (map (link_declared seen slot) ps ++ declared_links slots)) slot_is_told.told ∙ (g.same ∙ m.is);
           has = m.has;
         }
 

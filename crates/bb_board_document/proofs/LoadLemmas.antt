@@ -53,8 +53,8 @@ module _ (seen : Sight) (schema_fits : schemas.Fits seen.schema) (fits : Fits se
   abbrev m : fin.FinMap nat_cmp OneUnit
   m = seen.world.units.units
 
-  begins : Reached seen schema_fits fits [] (no_progress seen.schema)
-  begins = record {
+  none_reached : Reached seen schema_fits fits [] (no_progress seen.schema)
+  none_reached = record {
     units = refl;
     count = fin.len-empty nat_cmp OneUnit;
     above = λ i lt. fin.get-empty nat_cmp i;
@@ -65,7 +65,7 @@ module _ (seen : Sight) (schema_fits : schemas.Fits seen.schema) (fits : Fits se
   }
 
   units_done : (q : Progress) × (try_fold_at (inside lists.Units) (entry_after seen.schema) 0 (no_progress seen.schema) (map (λ (e : ℕ × OneUnit). unit_declared seen e.0) (fin.entries m)) ≡ Ok q) × Reached seen schema_fits fits (fin.entries m) q
-  units_done = walk seen schema_fits fits [] (fin.entries m) (no_progress seen.schema) 0 refl begins
+  units_done = walk seen schema_fits fits [] (fin.entries m) (no_progress seen.schema) 0 refl none_reached
 
   abbrev p : Progress
   p = units_done.0

@@ -99,11 +99,11 @@ module _ (seen : Sight) (schema_fits : schemas.Fits seen.schema) (fits : Fits se
         let all : fin.len m ≡ length pre + suc (length post) = fin.len-entries m ∙ (ap length (sym is) ∙ length-append pre (e ∷ post)) in
         omega (arith, limit, all)
 
-    held : fin.get m e.0 ≡ Some e.1
-    held = get_here m pre e post is
+    entry_held : fin.get m e.0 ≡ Some e.1
+    entry_held = get_here m pre e post is
 
     unit_fits : IsUnitOf (layout_of seen.schema) e.1
-    unit_fits = subst (λ (l : Layout). IsUnitOf l e.1) fits.layout (fits.units.units e.0 e.1 held)
+    unit_fits = subst (λ (l : Layout). IsUnitOf l e.1) fits.layout (fits.units.units e.0 e.1 entry_held)
 
     class_within : e.1.class < length seen.schema.classes
     class_within = let lt = unit_fits.class in omega (arith, lt, length-map seen.schema.classes (λ (k : Class). k.slots))
@@ -116,7 +116,7 @@ module _ (seen : Sight) (schema_fits : schemas.Fits seen.schema) (fits : Fits se
     k_at = (at_within seen.schema.classes e.1.class class_within).1
 
     class_is : class_at seen.world e.0 ≡ e.1.class
-    class_is = ap (λ o. unwrap_or (option_map (λ (x : OneUnit). x.class) o) 0) held
+    class_is = ap (λ o. unwrap_or (option_map (λ (x : OneUnit). x.class) o) 0) entry_held
 
     named : renamed seen.world e.0 ≡ number
     named = renamed_here seen.world m pre e post refl is
@@ -125,7 +125,7 @@ module _ (seen : Sight) (schema_fits : schemas.Fits seen.schema) (fits : Fits se
     next_is = ap (λ (u : Units). u.next) reached.units
 
     value_is : (slot : ℕ) → value_of seen.world.units e.0 slot ≡ value_at e.1.values slot
-    value_is slot = ap (option_and_then (λ (x : OneUnit). value_at x.values slot)) held
+    value_is slot = ap (option_and_then (λ (x : OneUnit). value_at x.values slot)) entry_held
 
     created : HasUnit seen.schema e.1.class number base (blank (layout_of seen.schema) e.1.class) (after_create p.world e.1.class)
     created = record {

@@ -16,7 +16,8 @@ use crate::listing::Listing;
 use crate::value::text_json;
 use bb_basis::Memory;
 use bb_native::View;
-use bb_schema::{ClassId, UnitId};
+use bb_schema::UnitId;
+use bb_schema_classes::ClassId;
 use serde_json::{Value as Json, json};
 use std::alloc::Global;
 

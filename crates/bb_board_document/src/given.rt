@@ -10,7 +10,8 @@ ghost use Rattle.bb_schema.specs.Schema.{slots_of};
 use crate::value::{same_value, value_json};
 use bb_basis::Memory;
 use bb_native::View;
-use bb_schema::{ClassId, Schema, SlotId, UnitId, Value};
+use bb_schema::{Schema, UnitId};
+use bb_schema_classes::{ClassId, SlotId, Value};
 use serde_json::{Map, Value as Json, put};
 use std::alloc::Global;
 

@@ -12,7 +12,8 @@ ghost use Rattle.bb_board_document.specs.Document.{link_data, links_by, member_d
 use crate::listing::Listing;
 use crate::value::text_json;
 use bb_basis::Memory;
-use bb_schema::{Schema, SlotId, SpaceId, UnitId};
+use bb_schema::{Schema, SpaceId, UnitId};
+use bb_schema_classes::SlotId;
 use serde_json::{Value as Json, json};
 use std::alloc::Global;
 

@@ -8,7 +8,8 @@ ghost use Rattle.bb_schema.specs.Schema.{name_of_label};
 ghost use Rattle.bb_board_document.specs.Values.{same_value, name_data, list_data, value_data};
 
 use bb_basis::Memory;
-use bb_schema::{LabelId, LabelSetId, Schema, Value};
+use bb_schema::Schema;
+use bb_schema_classes::{LabelId, LabelSetId, Value};
 use serde_json::{Value as Json, json};
 use std::alloc::Global;
 

@@ -1,8 +1,8 @@
 //! Tests of a blackboard: units, links, notes and initial units, with enough memory. board_spaces.rt has the tests of
 //! spaces.
 
-use bb_board::{Board, Change, Event, Note, Reason, Said, SharedSchema, UnitsFault};
-use bb_schema::{Schema, SlotId, UnitId, Value};
+use bb_board::{Board, Change, Event, Note, Reason, Said, UnitsFault};
+use bb_schema::{Schema, SharedSchema, SlotId, UnitId, Value};
 use std::alloc::Global;
 use std::fmt::Write;
 use std::test::Fail;

@@ -7,7 +7,7 @@ use crate::board::{load, noted};
 use crate::pattern::ordered;
 use bb_basis::Items;
 use bb_board::Board;
-use bb_query::{DimValue, OperandKind, Pattern, PatternFault, Query, Relation};
+use bb_pattern::{DimValue, OperandKind, Pattern, PatternFault, Query, Relation};
 use bb_schema::{ClassId, Schema, SlotId, SpaceId, UnitId, Value};
 use std::alloc::Global;
 use std::test::Fail;

@@ -4,7 +4,7 @@ use crate::board_spaces::{enter, found, leave, set};
 use crate::pattern::{is, not, ordered};
 use crate::query::two;
 use bb_board::Board;
-use bb_query::{DimValue, Node, Pattern, Relation};
+use bb_pattern::{DimValue, Node, Pattern, Relation};
 use bb_schema::{ClassId, LabelId, Schema, SlotId, SpaceId, UnitId, Value};
 use std::alloc::Global;
 use std::test::Fail;

@@ -5,7 +5,8 @@ ghost use Rattle.bb_query.specs.Knows.{Knows};
 
 use crate::board_spaces::kinds_of;
 use crate::pattern::{is, not, ordered};
-use bb_query::{DimValue, Node, Pattern, PatternFault, Query, Relation, find, values_of};
+use bb_pattern::{DimValue, Node, Pattern, PatternFault, Query, Relation};
+use bb_query::{find, values_of};
 use bb_schema::{ClassId, Schema, SlotId, SpaceId, UnitId, Value};
 use bb_space::Spaces;
 use bb_units::Units;

@@ -30,7 +30,7 @@ use Rattle.bb_bundle.specs.Bundle.{Parser, new_parser, with_whole, code_in, code
 use Rattle.bb_bundle.specs.Written.{Words, clause_words, code_digits, code_lines, reaction_lines, act_words, header_words, source_lines, text_of, bundle_text}
 use Rattle.bb_bundle.specs.proving.Again.{IsAgain, AreAgain, IsReactionAgain, IsActAgain, IsSpelledAgain}
 use Rattle.bb_bundle.proofs.WordLemmas.{from, are_words, name_word, words2, words3, words4}
-use Rattle.bb_bundle.proofs.LeadLemmas.{Leads, stays, leads_on, by_line, between, goes, by_keyword}
+use Rattle.bb_bundle.proofs.LeadLemmas.{Leads, leads_by_nothing, leads_on, by_line, between, goes, by_keyword}
 use Rattle.bb_bundle.proofs.LinesLemmas.{is_line, lines_again, text_of-append}
 use Rattle.bb_bundle.proofs.RateLemmas.{rate_again, rate_word}
 use Rattle.bb_bundle.proofs.CodeLemmas.{some_digits}
@@ -65,7 +65,7 @@ module _ (d : List (SourceDraft Code)) (shape : List ClauseText → PartialSourc
   clause_leads front c h = by_line d d (Some (shape front)) (Some (shape (front ++ c ∷ []))) (clause_words c) (clause_line c h) (clause_reads front c h)
 
   clauses_lead : (cs front : List ClauseText) → list_all is_clause cs ≡ true → Leads d (Some (shape front)) (map clause_words cs) d (Some (shape (front ++ cs)))
-  clauses_lead [] front h = subst (λ cs. Leads d (Some (shape front)) [] d (Some (shape cs))) (sym (append-nil front)) (stays d (Some (shape front)))
+  clauses_lead [] front h = subst (λ cs. Leads d (Some (shape front)) [] d (Some (shape cs))) (sym (append-nil front)) (leads_by_nothing d (Some (shape front)))
   clauses_lead (c ∷ cs) front h =
       let parts = and_parts (is_clause c) (list_all is_clause cs) h in
       let rest = clauses_lead cs (front ++ c ∷ []) parts.1 in
@@ -149,7 +149,7 @@ module _ (d : List (SourceDraft Code)) (s : SourceDraft Code) where
 
   require_leads : (require : Option Code) → AreAgain require → are_clauses s.header.triggers ≡ true
       → Leads d (Some (part s s.header.triggers None None None None)) (code_lines (codes "require") require) d (Some (part s s.header.triggers require None None None))
-  require_leads None again t = stays d (Some (part s s.header.triggers None None None None))
+  require_leads None again t = leads_by_nothing d (Some (part s s.header.triggers None None None None))
   require_leads (Some code) again t =
       by_line d d (Some (part s s.header.triggers None None None None)) (Some (part s s.header.triggers (Some code) None None None)) (codes "require" ∷ code_digits code ∷ [])
       (code_line 114 (codes "equire") code refl again) (require_reads code again t)
@@ -178,7 +178,7 @@ module _ (d : List (SourceDraft Code)) (s : SourceDraft Code) where
   obviate_leads : (require : Option Code) (obviate : Option (ReactionDraft Code)) → IsReactionAgain obviate → are_clauses s.header.triggers ≡ true → is_reaction obviate ≡ true
       → Leads d (Some (part s s.header.triggers require None None None)) (reaction_lines (codes "obviate") obviate) d (Some (part s s.header.triggers require obviate None None))
   unfolding obviating
-  obviate_leads require None again t o = stays d (Some (part s s.header.triggers require None None None))
+  obviate_leads require None again t o = leads_by_nothing d (Some (part s s.header.triggers require None None None))
   obviate_leads require (Some r) again t o =
       let parts = and_parts (is_name r.class) (are_clauses r.clauses) o in
       let words : Words = codes "obviate" ∷ r.class ∷ code_digits r.code ∷ [] in
@@ -213,7 +213,7 @@ module _ (d : List (SourceDraft Code)) (s : SourceDraft Code) where
   retrigger_leads : (require : Option Code) (obviate retrigger : Option (ReactionDraft Code)) → IsReactionAgain retrigger → are_clauses s.header.triggers ≡ true → is_reaction obviate ≡ true → is_reaction retrigger ≡ true
       → Leads d (Some (part s s.header.triggers require obviate None None)) (reaction_lines (codes "retrigger") retrigger) d (Some (part s s.header.triggers require obviate retrigger None))
   unfolding retriggering
-  retrigger_leads require obviate None again t o e = stays d (Some (part s s.header.triggers require obviate None None))
+  retrigger_leads require obviate None again t o e = leads_by_nothing d (Some (part s s.header.triggers require obviate None None))
   retrigger_leads require obviate (Some r) again t o e =
       let parts = and_parts (is_name r.class) (are_clauses r.clauses) e in
       let words : Words = codes "retrigger" ∷ r.class ∷ code_digits r.code ∷ [] in
@@ -232,7 +232,7 @@ module _ (d : List (SourceDraft Code)) (s : SourceDraft Code) where
 
   revalidate_leads : (revalidate : Option Code) → AreAgain revalidate → are_clauses s.header.triggers ≡ true → is_reaction s.parts.obviate ≡ true → is_reaction s.parts.retrigger ≡ true
       → Leads d (Some (part s s.header.triggers s.parts.require s.parts.obviate s.parts.retrigger None)) (code_lines (codes "revalidate") revalidate) d (Some (part s s.header.triggers s.parts.require s.parts.obviate s.parts.retrigger revalidate))
-  revalidate_leads None again t o e = stays d (Some (part s s.header.triggers s.parts.require s.parts.obviate s.parts.retrigger None))
+  revalidate_leads None again t o e = leads_by_nothing d (Some (part s s.header.triggers s.parts.require s.parts.obviate s.parts.retrigger None))
   revalidate_leads (Some code) again t o e =
       by_line d d (Some (part s s.header.triggers s.parts.require s.parts.obviate s.parts.retrigger None)) (Some (part s s.header.triggers s.parts.require s.parts.obviate s.parts.retrigger (Some code))) (codes "revalidate" ∷ code_digits code ∷ [])
       (code_line 114 (codes "evalidate") code refl again) (revalidate_reads code again t o e)
@@ -316,7 +316,7 @@ abbrev all_lines : List (SourceDraft Code) → List Words
 all_lines sources = flat_map source_lines sources
 
 sources_lead : (ss d : List (SourceDraft Code)) → All IsSpelledAgain ss → Leads d None (all_lines ss) (d ++ ss) None
-sources_lead [] d h = subst (λ e. Leads d None [] e None) (sym (append-nil d)) (stays d None)
+sources_lead [] d h = subst (λ e. Leads d None [] e None) (sym (append-nil d)) (leads_by_nothing d None)
 sources_lead (s ∷ ss) d h =
     let rest = sources_lead ss (d ++ s ∷ []) (All-tail IsSpelledAgain s ss h) in
     let more = subst (λ e. Leads (d ++ s ∷ []) None (all_lines ss) e None) (append_assoc d (s ∷ []) ss) rest in

@@ -25,9 +25,9 @@ pub record Leads (d : List (SourceDraft Code)) (p : Option PartialSource) (wss :
   pub are_lines : list_all is_line wss ≡ true
   pub reads : (n : ℕ) → (m : ℕ) × (try_fold after_line (record { lines = n; sources = d; partial = p }) (map joined wss) ≡ Ok (record { lines = m; sources = d'; partial = p' }))
 
-pub stays : (d : List (SourceDraft Code)) (p : Option PartialSource) → Leads d p [] d p
+pub leads_by_nothing : (d : List (SourceDraft Code)) (p : Option PartialSource) → Leads d p [] d p
 unfolding try_fold
-stays d p = record { are_lines = refl; reads = λ n. (n, refl) }
+leads_by_nothing d p = record { are_lines = refl; reads = λ n. (n, refl) }
 
 try_fold-bind : {S A E : Type 0} (f : S → A → Result S E) (xs ys : List A) → ((t : S) → try_fold f t (xs ++ ys) ≡ (try_fold f t xs >>= λ u. try_fold f u ys)) → (r : Result S E)
     → (r >>= λ t. try_fold f t (xs ++ ys)) ≡ ((r >>= λ t. try_fold f t xs) >>= λ u. try_fold f u ys)

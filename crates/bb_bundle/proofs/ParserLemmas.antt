@@ -4,7 +4,7 @@ use Rattle.std.specs.Prelude.{◌==◌}
 use Rattle.std.specs.Str.Lines.{lines}
 use Rattle.bb_basis.specs.Results.{◌>>=◌, ok_or, try_fold}
 use Rattle.bb_basis.proofs.ResultLemmas.{bind_ok, same_ok}
-use Rattle.bb_basis.proofs.IntoMapLemmas.{next_one, none_left}
+use Rattle.bb_basis.proofs.IntoMapLemmas.{next_one, length_drop_all}
 use Rattle.bb_basis.proofs.TryFoldLemmas.{try_fold_next, try_fold_error, try_fold_end}
 use Rattle.bb_code.specs.Code.{Code}
 use Rattle.bb_bundle.specs.declared.keyword.Keyword.{Keyword}
@@ -23,25 +23,25 @@ use Rattle.bb_bundle.specs.Partial.{may_come, with_clause, with_act, with_parts}
 use Rattle.bb_bundle.specs.Bundle.{Parser, new_parser, with_source, with_whole, code_of_words, reaction_of_words, after_first, after_when, after_require, after_obviate, after_retrigger, after_revalidate, after_do, after_native, after_keyword, after_further, after_words, after_line, at_end, sources_of}
 
 -- one line more leaves a parser that counted one line more
-counted : (r t : Parser) → ◌≡◌ {A = Result Parser BundleFault} (Ok r) (Ok t) → t.lines ≡ r.lines
-counted r t e = sym (ap (λ q. q.lines) (same_ok r t e))
+same_lines : (r t : Parser) → ◌≡◌ {A = Result Parser BundleFault} (Ok r) (Ok t) → t.lines ≡ r.lines
+same_lines r t e = sym (ap (λ q. q.lines) (same_ok r t e))
 
 -- what stands behind a step that went well counts no line
 binds_count : {A : Type 0} (r : Result A BundleFault) (f : A → Result Parser BundleFault) (t : Parser) (n : ℕ) → ((a : A) → f a ≡ Ok t → t.lines ≡ n) → (r >>= f) ≡ Ok t → t.lines ≡ n
 binds_count r f t n step e = let one = bind_ok r f t e in step one.0 one.2
 
-goes_on : (p t : Parser) (source : PartialSource) → ◌≡◌ {A = Result Parser BundleFault} (Ok (with_source p source)) (Ok t) → t.lines ≡ p.lines
-goes_on p t source e = counted (with_source p source) t e
+with_source_lines : (p t : Parser) (source : PartialSource) → ◌≡◌ {A = Result Parser BundleFault} (Ok (with_source p source)) (Ok t) → t.lines ≡ p.lines
+with_source_lines p t source e = same_lines (with_source p source) t e
 
 first_counts : (p t : Parser) (ws : List (List ℕ)) → after_first p ws ≡ Ok t → t.lines ≡ p.lines
 unfolding after_first
-first_counts p t ws e = binds_count (ok_or (header_of ws) (Line p.lines)) (λ header. Ok (with_source p (record { header = header; parts = no_parts }))) t p.lines (λ header. goes_on p t (record { header = header; parts = no_parts })) e
+first_counts p t ws e = binds_count (ok_or (header_of ws) (Line p.lines)) (λ header. Ok (with_source p (record { header = header; parts = no_parts }))) t p.lines (λ header. with_source_lines p t (record { header = header; parts = no_parts })) e
 
 whole_counts : (p t : Parser) (source : PartialSource) (act : ActDraft Code) → with_whole p source act ≡ Ok t → t.lines ≡ p.lines
 unfolding with_whole
 whole_counts p t source act e =
     binds_count (ok_or (if_spelled (with_act source act)) (Line p.lines)) (λ whole. Ok (record { lines = p.lines; sources = p.sources ++ whole ∷ []; partial = p.partial })) t p.lines
-    (λ whole h. counted (record { lines = p.lines; sources = p.sources ++ whole ∷ []; partial = p.partial }) t h) e
+    (λ whole h. same_lines (record { lines = p.lines; sources = p.sources ++ whole ∷ []; partial = p.partial }) t h) e
 
 ends : (p t : Parser) (source : PartialSource) (none : Bool) → cond none (with_whole p source acts.Native) (Err (Line p.lines)) ≡ Ok t → t.lines ≡ p.lines
 ends p t source true e = whole_counts p t source acts.Native e
@@ -49,11 +49,11 @@ ends p t source false e = absurd cc
 
 keyword_counts : (p t : Parser) (source : PartialSource) (keyword : Keyword) (ws : List (List ℕ)) → after_keyword p source keyword ws ≡ Ok t → t.lines ≡ p.lines
 unfolding after_keyword after_when after_require after_obviate after_retrigger after_revalidate after_do after_native
-keyword_counts p t source When ws e = binds_count (ok_or (clause_of ws) (Line p.lines)) (λ clause. Ok (with_source p (with_clause source clause))) t p.lines (λ clause. goes_on p t (with_clause source clause)) e
-keyword_counts p t source Require ws e = binds_count (code_of_words p.lines ws) (λ code. Ok (with_source p (with_parts source (with_require source.parts (Some code))))) t p.lines (λ code. goes_on p t (with_parts source (with_require source.parts (Some code)))) e
-keyword_counts p t source Obviate ws e = binds_count (reaction_of_words p.lines ws) (λ reaction. Ok (with_source p (with_parts source (with_obviate source.parts (Some reaction))))) t p.lines (λ reaction. goes_on p t (with_parts source (with_obviate source.parts (Some reaction)))) e
-keyword_counts p t source Retrigger ws e = binds_count (reaction_of_words p.lines ws) (λ reaction. Ok (with_source p (with_parts source (with_retrigger source.parts (Some reaction))))) t p.lines (λ reaction. goes_on p t (with_parts source (with_retrigger source.parts (Some reaction)))) e
-keyword_counts p t source Revalidate ws e = binds_count (code_of_words p.lines ws) (λ code. Ok (with_source p (with_parts source (with_revalidate source.parts (Some code))))) t p.lines (λ code. goes_on p t (with_parts source (with_revalidate source.parts (Some code)))) e
+keyword_counts p t source When ws e = binds_count (ok_or (clause_of ws) (Line p.lines)) (λ clause. Ok (with_source p (with_clause source clause))) t p.lines (λ clause. with_source_lines p t (with_clause source clause)) e
+keyword_counts p t source Require ws e = binds_count (code_of_words p.lines ws) (λ code. Ok (with_source p (with_parts source (with_require source.parts (Some code))))) t p.lines (λ code. with_source_lines p t (with_parts source (with_require source.parts (Some code)))) e
+keyword_counts p t source Obviate ws e = binds_count (reaction_of_words p.lines ws) (λ reaction. Ok (with_source p (with_parts source (with_obviate source.parts (Some reaction))))) t p.lines (λ reaction. with_source_lines p t (with_parts source (with_obviate source.parts (Some reaction)))) e
+keyword_counts p t source Retrigger ws e = binds_count (reaction_of_words p.lines ws) (λ reaction. Ok (with_source p (with_parts source (with_retrigger source.parts (Some reaction))))) t p.lines (λ reaction. with_source_lines p t (with_parts source (with_retrigger source.parts (Some reaction)))) e
+keyword_counts p t source Revalidate ws e = binds_count (code_of_words p.lines ws) (λ code. Ok (with_source p (with_parts source (with_revalidate source.parts (Some code))))) t p.lines (λ code. with_source_lines p t (with_parts source (with_revalidate source.parts (Some code)))) e
 keyword_counts p t source Do ws e = binds_count (code_of_words p.lines ws) (λ code. with_whole p source (acts.Do code)) t p.lines (λ code. whole_counts p t source (acts.Do code)) e
 keyword_counts p t source Native ws e = ends p t source (length ws == 0) e
 
@@ -75,7 +75,7 @@ unfolding after_line
 line_counts p t line e = counts (length line == 0) e
   where
     counts : (empty : Bool) → cond empty (Ok (record { lines = p.lines + 1; sources = p.sources; partial = p.partial })) (after_words (record { lines = p.lines + 1; sources = p.sources; partial = None }) p.partial (words_of line)) ≡ Ok t → t.lines ≡ p.lines + 1
-    counts true e = counted (record { lines = p.lines + 1; sources = p.sources; partial = p.partial }) t e
+    counts true e = same_lines (record { lines = p.lines + 1; sources = p.sources; partial = p.partial }) t e
     counts false e = words_count (record { lines = p.lines + 1; sources = p.sources; partial = None }) t p.partial (words_of line) e
 
 pub lines_next : (p t : Parser) (all : List (List ℕ)) (k n : ℕ) (line : List ℕ) (total : Result Parser BundleFault) → k < length all → line ≡ get_or all k line → n ≡ k + 1 → after_line p line ≡ Ok t
@@ -97,4 +97,4 @@ lines_error p text k line e lt is read so_far =
 pub lines_end : (p : Parser) (text : List ℕ) (k : ℕ) → k ≡ length (lines text) → try_fold after_line p (drop k (lines text)) ≡ try_fold after_line new_parser (lines text) → sources_of text ≡ at_end p
 unfolding sources_of
 lines_end p text k last so_far =
-    ap (λ x. x >>= at_end) (try_fold_end after_line p (drop k (lines text)) (try_fold after_line new_parser (lines text)) (none_left (lines text) k (omega arith)) so_far)
+    ap (λ x. x >>= at_end) (try_fold_end after_line p (drop k (lines text)) (try_fold after_line new_parser (lines text)) (length_drop_all (lines text) k (omega arith)) so_far)

@@ -29,9 +29,9 @@ not_all_three true true false n h = refl
 not_all_three true false c n h = refl
 not_all_three false b c n h = refl
 
-found : (most : ℕ) (ds : List ℕ) → list_all is_digit ds ≡ true → 0 < length ds → with_digits 0 ds ≤ most → number_up_to most ds ≡ Some (with_digits 0 ds)
+number_of_digits : (most : ℕ) (ds : List ℕ) → list_all is_digit ds ≡ true → 0 < length ds → with_digits 0 ds ≤ most → number_up_to most ds ≡ Some (with_digits 0 ds)
 unfolding number_up_to
-found most ds digits some few = all_three (list_all is_digit ds) (nat_le 1 (length ds)) (nat_le (with_digits 0 ds) most) (with_digits 0 ds) digits (le-leb 1 (length ds) (omega arith)) (le-leb (with_digits 0 ds) most few)
+number_of_digits most ds digits some few = all_three (list_all is_digit ds) (nat_le 1 (length ds)) (nat_le (with_digits 0 ds) most) (with_digits 0 ds) digits (le-leb 1 (length ds) (omega arith)) (le-leb (with_digits 0 ds) most few)
 
 missed : (most : ℕ) (ds : List ℕ) → (list_all is_digit ds ≡ true → 0 < length ds → with_digits 0 ds ≤ most → ⊥) → number_up_to most ds ≡ None
 unfolding number_up_to
@@ -39,13 +39,13 @@ missed most ds h = not_all_three (list_all is_digit ds) (nat_le 1 (length ds)) (
     (λ p q r. h p (let lower : 1 ≤ length ds = leb-true 1 (length ds) q in omega arith) (leb-true (with_digits 0 ds) most r))
 
 minus_read : {E : Type 0} (ds : List ℕ) (r : Result ℤ E) → OkIff r ((list_all is_digit ds ≡ true) × (0 < length ds) × (with_digits 0 ds ≤ 2 ^ 63)) (neg_ℤ (pos (with_digits 0 ds))) → result_ok r ≡ option_map (λ n. neg_ℤ (pos n)) (number_up_to (2 ^ 63) ds)
-minus_read ds (Ok x) h = ap (λ z. Some z) h.1 ∙ sym (ap (option_map (λ n. neg_ℤ (pos n))) (found (2 ^ 63) ds h.0.0 h.0.1 h.0.2))
+minus_read ds (Ok x) h = ap (λ z. Some z) h.1 ∙ sym (ap (option_map (λ n. neg_ℤ (pos n))) (number_of_digits (2 ^ 63) ds h.0.0 h.0.1 h.0.2))
 minus_read ds (Err e) h = sym (ap (option_map (λ n. neg_ℤ (pos n))) (missed (2 ^ 63) ds (λ p q r. h (p, q, r))))
 
 plain_read : {E : Type 0} (ds : List ℕ) (r : Result ℤ E) → OkIff r ((list_all is_digit ds ≡ true) × (0 < length ds) × (with_digits 0 ds < 2 ^ 63)) (pos (with_digits 0 ds)) → result_ok r ≡ option_map (λ n. pos n) (number_up_to (2 ^ 63 - 1) ds)
 plain_read ds (Ok x) h =
     let below : with_digits 0 ds < 2 ^ 63 = h.0.2 in
-    ap (λ z. Some z) h.1 ∙ sym (ap (option_map (λ n. pos n)) (found (2 ^ 63 - 1) ds h.0.0 h.0.1 (omega arith)))
+    ap (λ z. Some z) h.1 ∙ sym (ap (option_map (λ n. pos n)) (number_of_digits (2 ^ 63 - 1) ds h.0.0 h.0.1 (omega arith)))
 plain_read ds (Err e) h = sym (ap (option_map (λ n. pos n)) (missed (2 ^ 63 - 1) ds (λ p q r. h (p, q, let low : with_digits 0 ds < 2 ^ 63 = omega arith in low))))
 
 signed_read : {E : Type 0} (b : ℕ) (bs : List ℕ) (r : Result ℤ E) (minus : Bool) → (b == 45) ≡ minus → ParsesSigned w64 10 (b ∷ bs) r → b ≢ 43 → result_ok r ≡ cond minus (option_map (λ n. neg_ℤ (pos n)) (number_up_to (2 ^ 63) bs)) (option_map (λ n. pos n) (number_up_to (2 ^ 63 - 1) (b ∷ bs)))
@@ -73,7 +73,7 @@ plain_again [] digits some few = absurd (omega arith)
 plain_again (d ∷ ds) digits some few =
     let digit = digit_bounds d (and_parts (is_digit d) (list_all is_digit ds) digits).0 in
     let other : (d == 45) ≡ false = ne_eqb d 45 (λ e. omega arith) in
-    rw other (ap (option_map (λ n. pos n)) (found (2 ^ 63 - 1) (d ∷ ds) digits some few))
+    rw other (ap (option_map (λ n. pos n)) (number_of_digits (2 ^ 63 - 1) (d ∷ ds) digits some few))
 
 digits_again : (n : ℕ) → n < 2 ^ 64 → (list_all is_digit (decimal n) ≡ true) × (0 < length (decimal n)) × (with_digits 0 (decimal n) ≡ n)
 digits_again n small = (digits_decimal own n small, decimal_nonempty n small, digits_value-decimal own n small)
@@ -89,7 +89,7 @@ rate_again (negsuc n) fits =
     let small : n < 2 ^ 63 = fits.sfits in
     let digits = digits_again (suc n) (omega arith) in
     let value : with_digits 0 (decimal (suc n)) ≤ 2 ^ 63 = omega (arith, digits.2) in
-    ap (option_map (λ k. neg_ℤ (pos k))) (found (2 ^ 63) (decimal (suc n)) digits.0 digits.1 value) ∙ ap (λ k. Some (neg_ℤ (pos k))) digits.2
+    ap (option_map (λ k. neg_ℤ (pos k))) (number_of_digits (2 ^ 63) (decimal (suc n)) digits.0 digits.1 value) ∙ ap (λ k. Some (neg_ℤ (pos k))) digits.2
 
 -- the bytes of a rate are digits and perhaps a sign
 digits_from : (ds : List ℕ) → list_all is_digit ds ≡ true → from 33 ds ≡ true

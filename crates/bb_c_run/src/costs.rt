@@ -6,7 +6,7 @@ ghost use Rattle.bb_rules.specs.Cost.{creates};
 ghost use Rattle.bb_verify.specs.declared.checked.TheConstants.{FOUND_LIMIT as MOST_FOUND};
 ghost use Rattle.bb_c_run.specs.Costs.{most_steps_of};
 
-use bb_shell::Source;
+use bb_rules::Source;
 use bb_verify::FOUND_LIMIT;
 
 /// Returns the maximum number of steps that an execution of any code of the sources can make if no sequence that it

@@ -11,9 +11,10 @@ ghost use Rattle.bb_shell.specs.Meaning.{Meaning};
 use crate::no_native::{NoNative, no_natives};
 use crate::stands::{Stands, stands_by};
 use crate::trace::Trace;
+use bb_basis::{Memory, Text};
 use bb_main_input::Sections;
 use bb_run_held::Running;
-use bb_shell::{Ask, Finish, HostedShell, InputFault, Memory, NativeSource, Out, Text, Texts};
+use bb_shell::{Ask, Finish, HostedShell, InputFault, NativeSource, Out, Texts};
 use std::alloc::{AllocError, Global};
 use std::mem;
 

@@ -5,10 +5,11 @@ ghost use Rattle.bb_board_document.specs.Document.{units_text};
 ghost use Rattle.bb_c_run.specs.Looking.{class_in, due_by, filled, filled_if, interval_of, is_of, label_name_of};
 ghost use Rattle.bb_c_run.specs.Looking.{number_of, partners_in, slot_in, text_of, truth_of, units_of, value_in};
 
+use bb_basis::Memory;
 use bb_board_document::units_document;
 use bb_run_held::Pause;
-use bb_schema::{ClassId, SlotId};
-use bb_shell::{Memory, Plan, UnitId, Value, View};
+use bb_schema::{ClassId, SlotId, UnitId};
+use bb_shell::{Plan, Value, View};
 use std::alloc::Global;
 
 /// Copies as many of some items as `room` has places for, and returns the number of items.

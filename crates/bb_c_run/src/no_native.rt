@@ -1,6 +1,8 @@
 //! The type of natives of a run without natives.
 
-use bb_shell::{Ask, Memory, NativeSource, UnitId, View};
+use bb_basis::Memory;
+use bb_schema::UnitId;
+use bb_shell::{Ask, NativeSource, View};
 use std::alloc::Global;
 
 /// A native that asks for nothing. No held run has one.

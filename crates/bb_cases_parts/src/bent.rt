@@ -3,9 +3,10 @@
 
 use crate::executions::add_on_scene;
 use crate::machines::Asked;
-use bb_cases_format::{Code, CodeFault, Fault, Scene};
+use bb_cases_format::{Fault, Scene};
+use bb_code::{Code, CodeFault, Flaw, VerifyFault};
 use bb_schema::Schema;
-use bb_verify::{Flaw, Part, VerifyFault, verify};
+use bb_verify::{Part, verify};
 use std::alloc::Global;
 use std::fmt::Write;
 

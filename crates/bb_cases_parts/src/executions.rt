@@ -2,7 +2,8 @@
 
 use crate::board::board_of;
 use crate::machines::{Asked, Boards, Entry, add_execution};
-use bb_cases_format::{Code, Fault, Scene, number};
+use bb_cases_format::{Fault, Scene, number};
+use bb_code::Code;
 use std::alloc::Global;
 
 /// Returns the units of an entry, `N` or `N:M`. `Number`: one is not a number.

@@ -6,11 +6,12 @@ use crate::executions::{add_on_scene, entry_of};
 use crate::machines::Asked;
 use bb_basis::Whole;
 use bb_cases_format::{
-    Difference, Entry, Fault, Header, Kind, Names, Scene, Scope, code_of, expanded_text, number,
+    Difference, Entry, Fault, Header, Names, Scene, Scope, code_of, expanded_text, number,
     write_kind,
 };
+use bb_code::{Flaw, Kind, VerifyFault};
 use bb_schema::Schema;
-use bb_verify::{Checked, FOUND_LIMIT, Flaw, Frame, Part, VerifyFault, verify};
+use bb_verify::{Checked, FOUND_LIMIT, Frame, Part, verify};
 use std::alloc::{AllocError, Global};
 use std::fmt::Write;
 

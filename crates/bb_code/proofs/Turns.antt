@@ -14,19 +14,19 @@ regroup : (A S : Type 0) (front : List A) (a : A) (read : Result (List A × S) C
 regroup A S front a (Ok x) = ap (λ (xs : List A). Ok (xs, x.1)) (simp append_assoc)
 regroup A S front a (Err fault) = refl
 
-pub goes_on : (A S : Type 0) (one : S → Result (A × S) CodeFault) (front : List A) (count i : ℕ) (at : S) (a : A) (after : S) (total : Result (List A × S) CodeFault)
+pub repeated_next : (A S : Type 0) (one : S → Result (A × S) CodeFault) (front : List A) (count i : ℕ) (at : S) (a : A) (after : S) (total : Result (List A × S) CodeFault)
     → i < count → one at ≡ Ok (a, after) → with_front front (repeated one (count - i) at) ≡ total → with_front (front ++ a ∷ []) (repeated one (count - (i + 1)) after) ≡ total
 unfolding repeated
-goes_on A S one front count i at a after total below is so_far =
+repeated_next A S one front count i at a after total below is so_far =
     let left : count - i ≡ suc (count - (i + 1)) = omega arith in
     let moved : with_front front (repeated one (count - i) at) ≡ with_front (front ++ a ∷ []) (repeated one (count - (i + 1)) after) = rw (left, is) (regroup A S front a (repeated one (count - (i + 1)) after)) in
     sym moved ∙ so_far
 
-pub ends : (A S : Type 0) (one : S → Result (A × S) CodeFault) (front : List A) (count i : ℕ) (at : S) (fault : CodeFault) (total : Result (List A × S) CodeFault)
+pub repeated_failed : (A S : Type 0) (one : S → Result (A × S) CodeFault) (front : List A) (count i : ℕ) (at : S) (fault : CodeFault) (total : Result (List A × S) CodeFault)
     → i < count → (fault ≡ Memory) ⊎ (one at ≡ Err fault) → with_front front (repeated one (count - i) at) ≡ total → (fault ≡ Memory) ⊎ (total ≡ Err fault)
 unfolding repeated
-ends A S one front count i at fault total below (inl memory) so_far = inl memory
-ends A S one front count i at fault total below (inr failed) so_far =
+repeated_failed A S one front count i at fault total below (inl memory) so_far = inl memory
+repeated_failed A S one front count i at fault total below (inr failed) so_far =
     let left : count - i ≡ suc (count - (i + 1)) = omega arith in
     let stopped : with_front front (repeated one (count - i) at) ≡ Err fault = rw (left, failed) refl in
     inr (sym so_far ∙ stopped)

@@ -3,14 +3,14 @@
 
 use bb_basis::{Items, Text};
 use bb_code::{
-    Calculation, Code, Comparison, Division as OpDivision, Loop, Node, OperandKind, Pattern, Query,
-    Version,
+    Calculation, Code, Comparison, Division as OpDivision, Kind, Loop, Node, Op, OperandKind,
+    Pattern, Query, Version,
 };
 use bb_compile_buffer::{
     Buffer, Loops, Ops, Texts, emit_atom, emit_binary, emit_division, emit_operator, emit_unary,
     emit_unit, emit_variable, finish,
 };
-use bb_compile_scope::{Kind, Op, Part, Place};
+use bb_compile_scope::{Part, Place};
 use bb_lang::{Atom, Binary, Division, Operator, Unary, Variable};
 use bb_schema::Schema;
 use std::alloc::{AllocError, Global};

@@ -1,8 +1,8 @@
 //! Tests of the code of a part, with enough memory, and of the flaw of a part that does not end.
 
-use bb_code::Calculation;
-use bb_compile::{CompileFault, Place, TextFlaw, emit_part};
-use bb_compile_scope::{Op, Part};
+use bb_code::{Calculation, Op};
+use bb_compile::{Place, emit_part};
+use bb_compile_scope::{CompileFault, Part, TextFlaw};
 use bb_lang::{ActText, parse};
 use bb_schema::Schema;
 use std::test::Fail;

@@ -1,7 +1,8 @@
 //! Tests of what is known at a statement, with enough memory: the names of a part, and what a loop's body leaves.
 
 use bb_basis::Text;
-use bb_compile_scope::{Kind, LocalId, Part, Scope, kill_under};
+use bb_code::{Kind, LocalId};
+use bb_compile_scope::{Part, Scope, kill_under};
 use bb_lang::{ActText, Block, parse};
 use bb_schema::Schema;
 use std::alloc::Global;

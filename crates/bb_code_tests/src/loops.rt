@@ -2,9 +2,11 @@
 //! compared with it.
 
 use bb_basis::{Items, Text};
-use bb_code::{Code, CodeParts, FrameEntry, LocalId, Loop, Op, Place, Query, Version};
+use bb_code::{
+    Code, CodeParts, Flaw, FrameEntry, LocalId, Loop, Op, Place, Query, VerifyFault, Version,
+};
 use bb_schema::Schema;
-use bb_verify::{Flaw, NESTING_LIMIT, Part, VerifyFault, verify};
+use bb_verify::{NESTING_LIMIT, Part, verify};
 use std::alloc::Global;
 use std::test::Fail;
 

@@ -3,10 +3,10 @@ use Rattle.std.proofs.Common.{◌≡◌, ◌⊎◌, inl, inr, ℕ, zero, suc, �
 use Rattle.bb_basis.proofs.IntoMapLemmas.{next_one}
 use Rattle.bb_basis.specs.Results.{◌>>=◌}
 use Rattle.bb_basis.proofs.ResultLemmas.{same_ok}
-use Rattle.bb_code.specs.Trees.{Tree, Trees, no_more, more}
-use Rattle.bb_code.specs.View.{trees_of}
+use Rattle.bb_pattern.specs.Trees.{Tree, Trees, no_more, more}
+use Rattle.bb_pattern.specs.View.{trees_of}
 use Rattle.bb_verify_effect.specs.declared.part.Part.{Part}
-use Rattle.bb_verify_effect.specs.Schema.{Schema}
+use Rattle.bb_schema.specs.Schema.{Schema}
 use Rattle.bb_lang.specs.Placed.{Placed}
 use Rattle.bb_lang.specs.Step.{Step as OneStep}
 use Rattle.bb_lang.specs.Step.TheVariants.{Apply, Divide}
@@ -27,11 +27,11 @@ use Rattle.bb_compile.specs.proving.Fronts.{behind, with_front}
 
 -- ---- what is left of a list
 
-none_left : {X : Type 0} (xs : List X) (i : ℕ) → length xs ≤ i → drop i xs ≡ []
-none_left [] zero le = refl
-none_left [] (suc i) le = refl
-none_left (x ∷ xs) zero le = absurd (omega arith)
-none_left (x ∷ xs) (suc i) le = none_left xs i (omega arith)
+drop_all : {X : Type 0} (xs : List X) (i : ℕ) → length xs ≤ i → drop i xs ≡ []
+drop_all [] zero le = refl
+drop_all [] (suc i) le = refl
+drop_all (x ∷ xs) zero le = absurd (omega arith)
+drop_all (x ∷ xs) (suc i) le = drop_all xs i (omega arith)
 
 -- ---- one step after another
 
@@ -76,7 +76,7 @@ module _ (schema : Schema) (room : ℕ) where
 
     pub steps_end : length steps ≤ i → steps_code schema room left (steps_of (drop i steps)) t ≡ total → total ≡ Ok (left, t)
     unfolding steps_code
-    steps_end le so_far = sym so_far ∙ ap (λ l. steps_code schema room left (steps_of l) t) (none_left steps i le)
+    steps_end le so_far = sym so_far ∙ ap (λ l. steps_code schema room left (steps_of l) t) (drop_all steps i le)
 
 -- ---- patterns
 
@@ -133,7 +133,7 @@ module _ (schema : Schema) (room : ℕ) (space : Option ℕ) (ps : List PatternT
 
   pub patterns_end : length ps ≤ i → with_front made (patterns_code schema room space (patterns_of (drop i ps)) a s) ≡ total → total ≡ Ok (trees_of made, a, s)
   unfolding patterns_code
-  patterns_end le so_far = sym so_far ∙ ap (λ l. with_front made (patterns_code schema room space (patterns_of l) a s)) (none_left ps i le) ∙ front_none made a s
+  patterns_end le so_far = sym so_far ∙ ap (λ l. with_front made (patterns_code schema room space (patterns_of l) a s)) (drop_all ps i le) ∙ front_none made a s
 
 -- ---- statements of a block
 
@@ -169,7 +169,7 @@ module _ (schema : Schema) (part : Part) (loops : ℕ) (ps : List Placed) (i : �
 
   pub block_end : length ps ≤ i → statements_code schema part loops ended (block_of (drop i ps)) s ≡ total → total ≡ Ok (ended, s)
   unfolding statements_code
-  block_end le so_far = sym so_far ∙ ap (λ l. statements_code schema part loops ended (block_of l) s) (none_left ps i le)
+  block_end le so_far = sym so_far ∙ ap (λ l. statements_code schema part loops ended (block_of l) s) (drop_all ps i le)
 
 -- ---- the whole block
 

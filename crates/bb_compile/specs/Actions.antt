@@ -7,12 +7,12 @@ use Rattle.bb_code.specs.declared.op.LinkChange.TheVariants as changes
 use Rattle.bb_verify_effect.specs.declared.part.Part.{Part}
 use Rattle.bb_verify_effect.specs.Part.{writes, ends_rated, ends_answered}
 use Rattle.bb_verify_effect.specs.Kinds.{struck}
-use Rattle.bb_verify_effect.specs.Kind.{Kind}
-use Rattle.bb_verify_effect.specs.Kind.TheVariants as kinds
-use Rattle.bb_verify_effect.specs.Op.{Op}
-use Rattle.bb_verify_effect.specs.Op.TheVariants as ops
-use Rattle.bb_verify_effect.specs.Schema.{Schema, class_named, space_named, descends}
-use Rattle.bb_verify_effect.specs.Spaces.{allowed}
+use Rattle.bb_code.specs.declared.frame.Kind.{Kind}
+use Rattle.bb_code.specs.declared.frame.Kind.TheVariants as kinds
+use Rattle.bb_code.specs.declared.op.Op.{Op}
+use Rattle.bb_code.specs.declared.op.Op.TheVariants as ops
+use Rattle.bb_schema.specs.Schema.{Schema, class_named, space_named, descends}
+use Rattle.bb_schema.specs.Spaces.{allowed}
 use Rattle.bb_schema_classes.specs.declared.kind.Link.{Link}
 use Rattle.bb_lang.specs.Variable.{Variable}
 use Rattle.bb_lang.specs.Action.{Action}

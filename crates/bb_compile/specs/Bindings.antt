@@ -2,10 +2,10 @@
 use Rattle.std.specs.Prelude.{ℕ, Bool, false, ◌==◌, ◌&&◌, not, List, length, Option, Some, None, Result, Ok, Err, if◌then◌else◌}
 use Rattle.bb_basis.specs.Results.{◌>>=◌}
 use Rattle.bb_code.specs.declared.parts.TheConstants.{STACK_LIMIT}
-use Rattle.bb_verify_effect.specs.Kind.{Kind}
-use Rattle.bb_verify_effect.specs.Kind.TheVariants.{Ref}
-use Rattle.bb_verify_effect.specs.Op.TheVariants.{Alive, As, One}
-use Rattle.bb_verify_effect.specs.Schema.{Schema, class_named, descends}
+use Rattle.bb_code.specs.declared.frame.Kind.{Kind}
+use Rattle.bb_code.specs.declared.frame.Kind.TheVariants.{Ref}
+use Rattle.bb_code.specs.declared.op.Op.TheVariants.{Alive, As, One}
+use Rattle.bb_schema.specs.Schema.{Schema, class_named, descends}
 use Rattle.bb_lang.specs.Variable.{Variable}
 use Rattle.bb_lang.specs.Binding.{Binding}
 use Rattle.bb_lang.specs.Binding.TheVariants as bindings

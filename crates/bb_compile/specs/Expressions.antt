@@ -1,11 +1,11 @@
 -- Expressions, sequences and patterns, with room for `room` values on the stack.
 use Rattle.std.specs.Prelude.{ℕ, ◌-◌, List, [], ◌∷◌, length, Option, Some, None, Result, Ok, Err}
 use Rattle.bb_basis.specs.Results.{◌>>=◌}
-use Rattle.bb_code.specs.Trees.{Tree, Trees, no_more}
-use Rattle.bb_code.specs.Trees as nodes
-use Rattle.bb_verify_effect.specs.Kind.TheVariants.{Int}
-use Rattle.bb_verify_effect.specs.Op.TheVariants.{Size}
-use Rattle.bb_verify_effect.specs.Schema.{Schema, class_named, space_named}
+use Rattle.bb_pattern.specs.Trees.{Tree, Trees, no_more}
+use Rattle.bb_pattern.specs.Trees as nodes
+use Rattle.bb_code.specs.declared.frame.Kind.TheVariants.{Int}
+use Rattle.bb_code.specs.declared.op.Op.TheVariants.{Size}
+use Rattle.bb_schema.specs.Schema.{Schema, class_named, space_named}
 use Rattle.bb_lang.specs.Step.{Step as OneStep}
 use Rattle.bb_lang.specs.Step.TheVariants.{Apply, Divide}
 use Rattle.bb_lang.specs.Trees.{ExprTree, Steps, SequenceTree, PatternTree, Patterns, atom, unary, binary, chain, size_of, no_step, apply, divide, found, linked, all, and_of, or_of, not_of, test, no_pattern, more}

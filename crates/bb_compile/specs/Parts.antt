@@ -7,8 +7,8 @@ use Rattle.bb_code.specs.declared.version.Version.{Version}
 use Rattle.bb_code.specs.declared.version.Version.TheVariants.{One, Two}
 use Rattle.bb_verify_effect.specs.declared.part.Part.{Part}
 use Rattle.bb_verify_effect.specs.Part.{ends_done}
-use Rattle.bb_verify_effect.specs.Op.TheVariants.{Done}
-use Rattle.bb_verify_effect.specs.Schema.{Schema}
+use Rattle.bb_code.specs.declared.op.Op.TheVariants.{Done}
+use Rattle.bb_schema.specs.Schema.{Schema}
 use Rattle.bb_lang.specs.Blocks.{BlockTree}
 use Rattle.bb_compile_scope.specs.Place.{Place}
 use Rattle.bb_compile_scope.specs.declared.fault.TextFlaw.TheVariants.{NoEnd}

@@ -3,10 +3,10 @@ use Rattle.std.specs.Prelude.{ℕ, Bool, false, ◌==◌, ◌-◌, ◌&&◌, ◌
 use Rattle.bb_basis.specs.Results.{◌>>=◌, ok_or}
 use Rattle.bb_code.specs.declared.parts.TheConstants.{STACK_LIMIT}
 use Rattle.bb_verify_effect.specs.declared.part.Part.{Part}
-use Rattle.bb_verify_effect.specs.Kind.{Kind}
-use Rattle.bb_verify_effect.specs.Kind.TheVariants.{Bool as Truth, Ref, Seq}
-use Rattle.bb_verify_effect.specs.Op.TheVariants.{Unless, Store, Jump, Next, Back}
-use Rattle.bb_verify_effect.specs.Schema.{Schema}
+use Rattle.bb_code.specs.declared.frame.Kind.{Kind}
+use Rattle.bb_code.specs.declared.frame.Kind.TheVariants.{Bool as Truth, Ref, Seq}
+use Rattle.bb_code.specs.declared.op.Op.TheVariants.{Unless, Store, Jump, Next, Back}
+use Rattle.bb_schema.specs.Schema.{Schema}
 use Rattle.bb_lang.specs.Action.{Action}
 use Rattle.bb_lang.specs.Binding.{Binding}
 use Rattle.bb_lang.specs.Placed.{Placed}

@@ -9,13 +9,13 @@ ghost use Rattle.bb_compile.specs.proving.Laying.{Lays};
 use crate::emitter::Emitter;
 use crate::expressions::{emit_expr, space_named};
 use bb_basis::Text;
-use bb_code::{LinkChange, SAID_LIMIT, STACK_LIMIT};
+use bb_code::{Kind, LinkChange, Op, SAID_LIMIT, STACK_LIMIT};
 use bb_compile_buffer::{Buffer, emit_unit};
-use bb_compile_scope::{
-    ClassId, CompileFault, Kind, Op, Part, Schema, SpaceId, TextFlaw, Variable, assigned,
-    link_slot, value_slot,
-};
+use bb_compile_scope::{CompileFault, TextFlaw, Variable, assigned, link_slot, value_slot};
 use bb_lang::{Action, Expr};
+use bb_schema::{Schema, SpaceId};
+use bb_schema_classes::ClassId;
+use bb_verify_effect::Part;
 
 // Notes `Effect` if the part may not make changes.
 fn check_effect(part: Part, buffer: &mut Buffer)

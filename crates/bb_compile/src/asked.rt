@@ -2,17 +2,16 @@
 //! sequences keeps one.
 
 ghost use Rattle.std.specs.Prelude.{◌≡◌, IfOk};
-ghost use Rattle.bb_code.specs.View.{tree_of};
+ghost use Rattle.bb_pattern.specs.View.{tree_of};
 ghost use Rattle.bb_pattern.specs.declared.pattern.Node.TheVariants.{Ordered};
-ghost use Rattle.bb_compile.specs.Queries.{no_operand, node_counted, node_noted, operand_kind, with_operand};
-ghost use Rattle.bb_compile.specs.Queries.{operand_number};
-ghost use Rattle.bb_compile.specs.Queries.{operand_noted, test_tree};
+ghost use Rattle.bb_compile.specs.Queries.{no_operand, node_counted, node_noted, operand_kind, with_operand, operand_number, operand_noted, test_tree};
 
 use bb_basis::Items;
-use bb_code::{NODE_LIMIT, Node, OPERAND_LIMIT, OperandKind, Relation as PatternRelation};
+use bb_code::Kind;
 use bb_compile_buffer::Buffer;
-use bb_compile_scope::{Kind, TextFlaw};
+use bb_compile_scope::TextFlaw;
 use bb_lang::Relation;
+use bb_pattern::{NODE_LIMIT, Node, OPERAND_LIMIT, OperandKind, Relation as PatternRelation};
 use std::alloc::{AllocError, Global};
 
 /// The kinds of a query's operands so far, and how many more nodes its pattern may have.

@@ -12,12 +12,12 @@ use crate::emitter::Emitter;
 use crate::exits::Exits;
 use crate::expressions::class_named;
 use bb_basis::Text;
-use bb_code::STACK_LIMIT;
+use bb_code::{Kind, Op, STACK_LIMIT};
 use bb_compile_buffer::{Buffer, emit_unit, emit_variable};
-use bb_compile_scope::{
-    ClassId, CompileFault, Kind, Op, Schema, TextFlaw, Variable, class_of, is_live, partner_slot,
-};
+use bb_compile_scope::{CompileFault, TextFlaw, Variable, class_of, is_live, partner_slot};
 use bb_lang::Binding;
+use bb_schema::Schema;
+use bb_schema_classes::ClassId;
 
 // Returns whether a unit of a class, live or not, may be tested to be of another.
 fn tells_more(schema: &Schema, live: bool, own: ClassId, class: ClassId) -> bool

@@ -6,8 +6,9 @@ ghost use Rattle.bb_compile_scope.specs.declared.fault.CompileFault.TheVariants.
 ghost use Rattle.bb_compile.specs.Statements.{jumped, else_begun, else_ended, if_ended};
 
 use crate::exits::Exits;
+use bb_code::Op;
 use bb_compile_buffer::Buffer;
-use bb_compile_scope::{CompileFault, LocalKinds, Mark, Op};
+use bb_compile_scope::{CompileFault, LocalKinds, Mark};
 use std::alloc::AllocError;
 
 /// An `if` or a `with` after its first block: the scope before the block, the exits of the test, and whether the block

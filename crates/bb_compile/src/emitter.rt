@@ -2,7 +2,8 @@
 //! a part gets it.
 
 use bb_compile_buffer::Buffer;
-use bb_compile_scope::{Part, Schema};
+use bb_schema::Schema;
+use bb_verify_effect::Part;
 
 /// The buffer of a part, and what statements are checked against: schema and part, which stay unchanged while the
 /// buffer grows.

@@ -4,26 +4,26 @@
 ghost use Rattle.std.specs.Prelude.{◌≡◌};
 ghost use Rattle.bb_basis.specs.Results.{Gives};
 ghost use Rattle.bb_compile_scope.specs.declared.fault.CompileFault.TheVariants.{Memory as OutOfMemory};
-ghost use Rattle.bb_code.specs.View.{tree_of, trees_of};
+ghost use Rattle.bb_pattern.specs.View.{tree_of, trees_of};
 ghost use Rattle.bb_lang.specs.View.{steps_of, sequence_of, patterns_of};
-ghost use Rattle.bb_verify_effect.specs.Schema.{class_named as class_by_name, space_named as space_by_name};
+ghost use Rattle.bb_schema.specs.Schema.{class_named as class_by_name, space_named as space_by_name};
 ghost use Rattle.bb_compile_buffer.specs.Buffers.{known};
 ghost use Rattle.bb_compile.specs.Queries.{links_code, query_code, test_code};
-ghost use Rattle.bb_compile.specs.Expressions.{expr_code, steps_code, step_code, sequence_code, pattern_code};
-ghost use Rattle.bb_compile.specs.Expressions.{patterns_code};
+ghost use Rattle.bb_compile.specs.Expressions.{expr_code, steps_code, step_code, sequence_code, pattern_code, patterns_code};
 ghost use Rattle.bb_compile.specs.proving.Laying.{Makes, Asks};
 
 use crate::asked::{Asked, test_node};
 use crate::emitter::Emitter;
 use bb_basis::Text;
-use bb_code::{Node, Pattern as CodePattern, Query};
+use bb_code::{Kind, Op};
 use bb_compile_buffer::{
     Buffer, emit_atom, emit_binary, emit_division, emit_operator, emit_unary, emit_unit,
 };
-use bb_compile_scope::{
-    ClassId, CompileFault, Kind, Op, Schema, SpaceId, TextFlaw, Variable, dimension, link_slot,
-};
+use bb_compile_scope::{CompileFault, TextFlaw, Variable, dimension, link_slot};
 use bb_lang::{Expr, ExprNode, Pattern, PatternNode, Relation, Sequence, Step};
+use bb_pattern::{Node, Pattern as CodePattern, Query};
+use bb_schema::{Schema, SpaceId};
+use bb_schema_classes::ClassId;
 
 // Emits the sequence of the units that a unit is linked to, and returns their class.
 #[tactic(auto, unfolding(crate::specs::Queries::links_code))]

@@ -9,12 +9,12 @@ ghost use Rattle.bb_compile.specs.proving.Laying.{Makes};
 use crate::emitter::Emitter;
 use crate::expressions::emit_sequence;
 use bb_basis::Text;
-use bb_code::STACK_LIMIT;
+use bb_code::{Kind, LocalId, Op, STACK_LIMIT};
 use bb_compile_buffer::Buffer;
-use bb_compile_scope::{
-    Block, ClassId, CompileFault, Kind, LocalId, Mark, Op, Place, Schema, TextFlaw, kill_under,
-};
+use bb_compile_scope::{Block, CompileFault, Mark, Place, TextFlaw, kill_under};
 use bb_lang::Sequence;
+use bb_schema::Schema;
+use bb_schema_classes::ClassId;
 use std::alloc::AllocError;
 
 /// A loop that has begun: its index, the place of its head, and the scope there.

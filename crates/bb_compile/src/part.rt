@@ -7,9 +7,11 @@ ghost use Rattle.bb_compile.specs.Parts.{has_no_end, done, version_for, part_cod
 
 use crate::emitter::Emitter;
 use crate::statements::emit_block;
-use bb_code::{Code, Version};
+use bb_code::{Code, Op, Version};
 use bb_compile_buffer::{Buffer, finish};
-use bb_compile_scope::{Block, CompileFault, Op, Part, Place, Schema, TextFlaw, block_ends};
+use bb_compile_scope::{Block, CompileFault, Place, TextFlaw, block_ends};
+use bb_schema::Schema;
+use bb_verify_effect::Part;
 use std::alloc::Global;
 
 /// The maximum number of nested loops.

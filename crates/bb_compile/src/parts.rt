@@ -12,7 +12,9 @@ use bb_bundle::{Parts, ReactionDraft};
 use bb_code::Code;
 use bb_compile_scope::{CompileFault, Place, TextFlaw, block_ends};
 use bb_lang::{PartText, PartTexts, ReactionText};
-use bb_verify_effect::{ClassId, Part, Schema};
+use bb_schema::Schema;
+use bb_schema_classes::ClassId;
+use bb_verify_effect::Part;
 use std::alloc::Global;
 
 /// Looks up the class named after an `on`, at a place. `Unknown`: there is none.

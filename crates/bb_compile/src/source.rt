@@ -11,7 +11,9 @@ use bb_bundle::{ActDraft, Header, SourceCode, SourceDraft};
 use bb_code::Code;
 use bb_compile_scope::{CompileFault, TextFlaw};
 use bb_lang::{ActText, SourceText};
-use bb_verify_effect::{ClassId, Part, Schema};
+use bb_schema::Schema;
+use bb_schema_classes::ClassId;
+use bb_verify_effect::Part;
 use std::alloc::{AllocError, Global};
 
 // Makes the header of a source: its name, class, rate and triggers.

@@ -14,9 +14,9 @@ use crate::emitter::Emitter;
 use crate::exits::Exits;
 use crate::expressions::emit_expr;
 use crate::looping::{begin_loop, emit_over};
-use bb_code::STACK_LIMIT;
+use bb_code::{Kind, Op, STACK_LIMIT};
 use bb_compile_buffer::Buffer;
-use bb_compile_scope::{Block, CompileFault, Kind, Mark, Op, Place, TextFlaw, ends};
+use bb_compile_scope::{Block, CompileFault, Mark, Place, TextFlaw, ends};
 use bb_lang::{Action, Binding, Branches, Expr, ForLoop, Placed, Statement};
 
 // Emits the test of an `if`.

@@ -3,10 +3,10 @@ use Rattle.std.specs.Prelude.{ℕ, ◌+◌, ◌==◌, Bool, nat_le, max, set, Li
 use Rattle.std.specs.Str.{bytes_eq}
 use Rattle.bb_basis.specs.Results.{◌>>=◌}
 use Rattle.bb_compile_scope.specs.Place.{Place}
-use Rattle.bb_verify_effect.specs.Kind.{Kind}
+use Rattle.bb_code.specs.declared.frame.Kind.{Kind}
 use Rattle.bb_verify_effect.specs.Kinds.{is_same_plain}
-use Rattle.bb_verify_effect.specs.Op.{Op}
-use Rattle.bb_verify_effect.specs.Op.TheVariants.{One, Alive, As, Jump, Unless, Next, Store}
+use Rattle.bb_code.specs.declared.op.Op.{Op}
+use Rattle.bb_code.specs.declared.op.Op.TheVariants.{One, Alive, As, Jump, Unless, Next, Store}
 use Rattle.bb_verify_effect.specs.Query.{Query}
 use Rattle.bb_code.specs.declared.parts.TheConstants.{OP_LIMIT, TEXT_COUNT_LIMIT, QUERY_LIMIT, LOOP_LIMIT}
 use Rattle.bb_code.specs.declared.frame.Loop.{Loop}

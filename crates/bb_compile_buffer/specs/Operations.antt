@@ -1,10 +1,10 @@
 -- Operations, after their operands.
 use Rattle.std.specs.Prelude.{ℕ, ℤ, pos, int_lt, Option, Some, None, Ok, if◌then◌else◌}
 use Rattle.bb_basis.specs.Results.{◌>>=◌}
-use Rattle.bb_verify_effect.specs.Kind.{Kind}
-use Rattle.bb_verify_effect.specs.Kind.TheVariants as kinds
-use Rattle.bb_verify_effect.specs.Op.{Op}
-use Rattle.bb_verify_effect.specs.Op.TheVariants as ops
+use Rattle.bb_code.specs.declared.frame.Kind.{Kind}
+use Rattle.bb_code.specs.declared.frame.Kind.TheVariants as kinds
+use Rattle.bb_code.specs.declared.op.Op.{Op}
+use Rattle.bb_code.specs.declared.op.Op.TheVariants as ops
 use Rattle.bb_code.specs.declared.op.Bound.TheVariants as bounds
 use Rattle.bb_code.specs.declared.op.Calculation.TheVariants as calculations
 use Rattle.bb_code.specs.declared.op.Comparison.TheVariants as comparisons

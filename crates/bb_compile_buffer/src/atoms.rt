@@ -8,10 +8,9 @@ ghost use Rattle.bb_compile_buffer.specs.Atoms.{atom_code};
 
 use crate::buffer::Buffer;
 use bb_basis::Text;
-use bb_code::TEXT_BYTES_LIMIT;
+use bb_code::{Kind, Op, TEXT_BYTES_LIMIT};
 use bb_compile_scope::{
-    ClassId, CompileFault, Kind, Op, Schema, TextFlaw, Variable, class_of, is_live, name_of,
-    value_slot,
+    ClassId, CompileFault, Schema, TextFlaw, Variable, class_of, is_live, name_of, value_slot,
 };
 use bb_lang::Atom;
 

@@ -13,11 +13,9 @@ use crate::loops::Loops;
 use crate::ops::Ops;
 use crate::texts::Texts;
 use bb_basis::{Items, Text};
-use bb_code::{LOOP_LIMIT, QUERY_LIMIT, Query, TEXT_COUNT_LIMIT};
-use bb_compile_scope::{
-    CompileFault, Kind, LocalId, LocalKinds, Op, Part, Place, Scope, TextFlaw, lowest,
-};
-use bb_verify_effect::is_same_plain;
+use bb_code::{Kind, LOOP_LIMIT, LocalId, Op, QUERY_LIMIT, Query, TEXT_COUNT_LIMIT};
+use bb_compile_scope::{CompileFault, LocalKinds, Place, Scope, TextFlaw, lowest};
+use bb_verify_effect::{Part, is_same_plain};
 use std::alloc::{AllocError, Global};
 use std::mem;
 

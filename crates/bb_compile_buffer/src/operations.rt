@@ -3,14 +3,13 @@
 ghost use Rattle.std.specs.Prelude.{◌≡◌};
 ghost use Rattle.bb_basis.specs.Results.{Gives};
 ghost use Rattle.bb_compile_scope.specs.declared.fault.CompileFault.TheVariants.{Memory as OutOfMemory};
-ghost use Rattle.bb_verify_effect.specs.Kind.TheVariants.{Int, Bool};
-ghost use Rattle.bb_verify_effect.specs.Op.TheVariants.{Calculate, Compare, Combine};
-ghost use Rattle.bb_compile_buffer.specs.Operations.{one_due, two_due, unary_code, equality_code, binary_code, operator_code};
-ghost use Rattle.bb_compile_buffer.specs.Operations.{division_op, divisor_noted, division_code};
+ghost use Rattle.bb_code.specs.declared.frame.Kind.TheVariants.{Int, Bool};
+ghost use Rattle.bb_code.specs.declared.op.Op.TheVariants.{Calculate, Compare, Combine};
+ghost use Rattle.bb_compile_buffer.specs.Operations.{one_due, two_due, unary_code, equality_code, binary_code, operator_code, division_op, divisor_noted, division_code};
 
 use crate::buffer::Buffer;
-use bb_code::{Bound, Calculation, Comparison, Division as OpDivision, Logic};
-use bb_compile_scope::{CompileFault, Kind, Op, TextFlaw, equality};
+use bb_code::{Bound, Calculation, Comparison, Division as OpDivision, Kind, Logic, Op};
+use bb_compile_scope::{CompileFault, TextFlaw, equality};
 use bb_lang::{Binary, Division, Operator, Unary};
 
 // Emits an op on one operand of a kind.

@@ -1,9 +1,9 @@
 -- A chain with a step is no name.
 use Rattle.std.proofs.Common.{◌≡◌, ◌≤◌, List, [], ◌∷◌, length, None, refl, arith}
-use Rattle.bb_lang.specs.Step.{Step}
-use Rattle.bb_lang.specs.Step.TheVariants.{Apply, Divide}
-use Rattle.bb_lang.specs.Trees.{ExprTree, chain}
-use Rattle.bb_lang.specs.View.{steps_of}
+use Rattle.bb_lang_tree.specs.declared.tree.Step.{Step}
+use Rattle.bb_lang_tree.specs.declared.tree.Step.TheVariants.{Apply, Divide}
+use Rattle.bb_lang_tree.specs.Trees.{ExprTree, chain}
+use Rattle.bb_lang_tree.specs.View.{steps_of}
 use Rattle.bb_compile_scope.specs.declared.scope.Scope.{Scope}
 use Rattle.bb_compile_scope.specs.Killed.{value_class}
 

@@ -1,9 +1,9 @@
 -- Lemmas that crates above use.
 use Rattle.std.proofs.Common.{◌≡◌, ℕ, zero, suc, ◌+◌, ◌<◌, ◌≤◌, List, [], ◌∷◌, length, get_or, refl, sym, ap, ◌∙◌, arith, subst}
-use Rattle.bb_lang.specs.Placed.{Placed}
-use Rattle.bb_lang.specs.Blocks.{BlockTree}
-use Rattle.bb_lang.specs.BlockView.{block_of, statement_of}
-use Rattle.bb_lang.specs.proving.BlockCodes.{block_size}
+use Rattle.bb_lang_tree.specs.declared.block.Placed.{Placed}
+use Rattle.bb_lang_tree.specs.Blocks.{BlockTree}
+use Rattle.bb_lang_tree.specs.BlockView.{block_of, statement_of}
+use Rattle.bb_lang_tree.specs.proving.BlockCodes.{block_size}
 use Rattle.bb_compile_scope.specs.proving.Sizes.{statement_size}
 pub use Rattle.bb_compile_scope.proofs.LocalLemmas.{at_same, at_other, set_twice, free_first, taken_within, struck_at}
 pub use Rattle.bb_compile_scope.proofs.LocalLemmas.{frees, frees_same, frees_taken, length_paired, met_free}

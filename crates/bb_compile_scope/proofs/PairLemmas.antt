@@ -1,6 +1,6 @@
 -- Loops over the locals that change each of them by that of another list.
 use Rattle.std.proofs.Common.{◌≡◌, ℕ, zero, suc, ◌+◌, ◌<◌, ◌≤◌, List, [], ◌∷◌, ◌++◌, length, take, drop, get_or, set, refl, ap, ◌∙◌, arith}
-use Rattle.bb_verify_effect.specs.Kind.{Kind}
+use Rattle.bb_code.specs.declared.frame.Kind.{Kind}
 use Rattle.bb_compile_scope.specs.LocalKinds.{paired}
 
 module _ (f : Kind → Kind → Kind) (d : Kind) where
@@ -20,17 +20,17 @@ module _ (f : Kind → Kind → Kind) (d : Kind) where
       let turn = one_turn xs ys i lt (omega arith) in
       ap (set ks i) made ∙ ap (λ l. set l i (f (get_or xs i d) (get_or l i d))) is ∙ turn ∙ ap (so_far xs ys) (let e : suc i ≡ i + 1 = omega arith in e)
 
-  whole : (xs ys : List Kind) (i : ℕ) → length xs ≡ length ys → length ys ≤ i → so_far xs ys i ≡ paired f xs ys
+  so_far_is_paired : (xs ys : List Kind) (i : ℕ) → length xs ≡ length ys → length ys ≤ i → so_far xs ys i ≡ paired f xs ys
   unfolding paired
-  whole [] [] zero same le = refl
-  whole [] [] (suc i) same le = refl
-  whole [] (y ∷ ys) i same le = absurd (omega arith)
-  whole (x ∷ xs) [] i same le = absurd (omega arith)
-  whole (x ∷ xs) (y ∷ ys) zero same le = absurd (omega arith)
-  whole (x ∷ xs) (y ∷ ys) (suc i) same le = ap (λ l. f x y ∷ l) (whole xs ys i (omega arith) (omega arith))
+  so_far_is_paired [] [] zero same le = refl
+  so_far_is_paired [] [] (suc i) same le = refl
+  so_far_is_paired [] (y ∷ ys) i same le = absurd (omega arith)
+  so_far_is_paired (x ∷ xs) [] i same le = absurd (omega arith)
+  so_far_is_paired (x ∷ xs) (y ∷ ys) zero same le = absurd (omega arith)
+  so_far_is_paired (x ∷ xs) (y ∷ ys) (suc i) same le = ap (λ l. f x y ∷ l) (so_far_is_paired xs ys i (omega arith) (omega arith))
 
   pub pair_end : (xs ys ks : List Kind) (i : ℕ) → length xs ≡ length ys → length ys ≤ i → ks ≡ so_far xs ys i → ks ≡ paired f xs ys
-  pair_end xs ys ks i same le is = is ∙ whole xs ys i same le
+  pair_end xs ys ks i same le is = is ∙ so_far_is_paired xs ys i same le
 
   pub pair_begin : (xs ys : List Kind) → ys ≡ so_far xs ys 0
   unfolding paired

@@ -1,8 +1,8 @@
 -- Which statements always end.
 use Rattle.std.specs.Prelude.{Bool, true, false, ◌&&◌, ◌||◌}
-use Rattle.bb_lang.specs.Action.{Action}
-use Rattle.bb_lang.specs.Action.TheVariants.{Rate, Decline, Answer}
-use Rattle.bb_lang.specs.Blocks.{BlockTree, StatementTree, OtherwiseTree, no_statement, before_others, action, if_of, with_of, for_of, absent, otherwise}
+use Rattle.bb_lang_tree.specs.declared.block.Action.{Action}
+use Rattle.bb_lang_tree.specs.declared.block.Action.TheVariants.{Rate, Decline, Answer}
+use Rattle.bb_lang_tree.specs.Blocks.{BlockTree, StatementTree, OtherwiseTree, no_statement, before_others, action, if_of, with_of, for_of, absent, otherwise}
 
 -- a statement without blocks ends the part
 abbrev pub ends : Action → Bool

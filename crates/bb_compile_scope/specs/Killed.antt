@@ -3,19 +3,19 @@
 use Rattle.std.specs.Prelude.{ℕ, List, map, set, position, Option, Some, None, option_map, option_and_then, Result, Ok, Err}
 use Rattle.std.specs.Option.{option_map_or}
 use Rattle.bb_schema.specs.Schema.{Schema, class_named}
-use Rattle.bb_verify_effect.specs.Kind.{Kind}
-use Rattle.bb_verify_effect.specs.Kind.TheVariants as kinds
+use Rattle.bb_code.specs.declared.frame.Kind.{Kind}
+use Rattle.bb_code.specs.declared.frame.Kind.TheVariants as kinds
 use Rattle.bb_verify_effect.specs.Kinds.{struck}
-use Rattle.bb_lang.specs.Atom.TheVariants as atoms
-use Rattle.bb_lang.specs.Variable.{Variable}
-use Rattle.bb_lang.specs.Sequence.{Sequence}
-use Rattle.bb_lang.specs.Sequence.TheVariants.{Find, Links}
-use Rattle.bb_lang.specs.Action.{Action}
-use Rattle.bb_lang.specs.Action.TheVariants.{Let, New, Assign, Delete}
-use Rattle.bb_lang.specs.Binding.{Binding}
-use Rattle.bb_lang.specs.Binding.TheVariants.{As, Linked}
-use Rattle.bb_lang.specs.Trees.{ExprTree, atom, chain, no_step}
-use Rattle.bb_lang.specs.Blocks.{BlockTree, StatementTree, OtherwiseTree, no_statement, before_others, action, if_of, with_of, for_of, absent, otherwise}
+use Rattle.bb_lang_tree.specs.declared.atom.Atom.TheVariants as atoms
+use Rattle.bb_lang_tree.specs.declared.atom.Variable.{Variable}
+use Rattle.bb_lang_tree.specs.declared.tree.Sequence.{Sequence}
+use Rattle.bb_lang_tree.specs.declared.tree.Sequence.TheVariants.{Find, Links}
+use Rattle.bb_lang_tree.specs.declared.block.Action.{Action}
+use Rattle.bb_lang_tree.specs.declared.block.Action.TheVariants.{Let, New, Assign, Delete}
+use Rattle.bb_lang_tree.specs.declared.block.Binding.{Binding}
+use Rattle.bb_lang_tree.specs.declared.block.Binding.TheVariants.{As, Linked}
+use Rattle.bb_lang_tree.specs.Trees.{ExprTree, atom, chain, no_step}
+use Rattle.bb_lang_tree.specs.Blocks.{BlockTree, StatementTree, OtherwiseTree, no_statement, before_others, action, if_of, with_of, for_of, absent, otherwise}
 use Rattle.bb_compile_scope.specs.declared.scope.Scope.{Scope}
 use Rattle.bb_compile_scope.specs.Kinds.{class_of}
 use Rattle.bb_compile_scope.specs.LocalKinds.{is_free, kind_at}

@@ -1,11 +1,11 @@
 -- What follows from the kinds of values (this project's own).
 use Rattle.std.specs.Prelude.{ℕ, Bool, true, false, ◌&&◌, Option, Some, None, is_some, option_and_then, if◌then◌else◌}
-use Rattle.bb_verify_effect.specs.Schema.{Schema, descends}
-use Rattle.bb_verify_effect.specs.Kind.{Kind}
-use Rattle.bb_verify_effect.specs.Kind.TheVariants.{Int, Text, Label, Ref, Old}
+use Rattle.bb_schema.specs.Schema.{Schema, descends}
+use Rattle.bb_code.specs.declared.frame.Kind.{Kind}
+use Rattle.bb_code.specs.declared.frame.Kind.TheVariants.{Int, Text, Label, Ref, Old}
 use Rattle.bb_verify_effect.specs.Kinds.{is_same_plain}
-use Rattle.bb_verify_effect.specs.Op.{Op}
-use Rattle.bb_verify_effect.specs.Op.TheVariants.{Compare, EqText, EqLabel, EqUnit}
+use Rattle.bb_code.specs.declared.op.Op.{Op}
+use Rattle.bb_code.specs.declared.op.Op.TheVariants.{Compare, EqText, EqLabel, EqUnit}
 use Rattle.bb_code.specs.declared.op.Comparison.TheVariants.{EqInt}
 
 -- the class of a unit, if the kind is a unit's

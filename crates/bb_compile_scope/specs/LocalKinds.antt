@@ -1,7 +1,7 @@
 -- What the locals of a code hold, indexed by local.
 use Rattle.std.specs.Prelude.{ℕ, Bool, true, false, List, [], ◌∷◌, replicate, slice_get, unwrap_or, if◌then◌else◌}
-use Rattle.bb_verify_effect.specs.Kind.{Kind}
-use Rattle.bb_verify_effect.specs.Kind.TheVariants.{Any}
+use Rattle.bb_code.specs.declared.frame.Kind.{Kind}
+use Rattle.bb_code.specs.declared.frame.Kind.TheVariants.{Any}
 use Rattle.bb_code.specs.declared.parts.TheConstants.{LOCAL_LIMIT}
 use Rattle.bb_compile_scope.specs.Kinds.{is_live}
 

@@ -7,10 +7,10 @@ use Rattle.bb_schema_classes.specs.declared.kind.Kind.TheVariants as held
 use Rattle.bb_schema_classes.specs.declared.kind.Link.{Link}
 use Rattle.bb_schema.specs.declared.space.Dim.{Dim}
 use Rattle.bb_schema.specs.Schema.{Schema, slot_named, kind_of_slot, dims_of}
-use Rattle.bb_verify_effect.specs.Kind.{Kind}
-use Rattle.bb_verify_effect.specs.Kind.TheVariants as kinds
-use Rattle.bb_lang.specs.Relation.{Relation}
-use Rattle.bb_lang.specs.Relation.TheVariants.{Is}
+use Rattle.bb_code.specs.declared.frame.Kind.{Kind}
+use Rattle.bb_code.specs.declared.frame.Kind.TheVariants as kinds
+use Rattle.bb_lang_tree.specs.declared.atom.Relation.{Relation}
+use Rattle.bb_lang_tree.specs.declared.atom.Relation.TheVariants.{Is}
 use Rattle.bb_compile_scope.specs.declared.fault.TextFlaw.{TextFlaw}
 use Rattle.bb_compile_scope.specs.declared.fault.TextFlaw.TheVariants.{Unknown, Kind as WrongKind}
 

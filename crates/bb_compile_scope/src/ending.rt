@@ -1,10 +1,10 @@
 //! Which statements always end. Every path through a part other than `do` must end.
 
 ghost use Rattle.std.specs.Prelude.{◌≡◌};
-ghost use Rattle.bb_lang.specs.BlockView.{statement_of, otherwise_of};
+ghost use Rattle.bb_lang_tree.specs.BlockView.{statement_of, otherwise_of};
 ghost use Rattle.bb_compile_scope.specs.Ending.{ends, otherwise_ends, always_ends, block_ends};
 
-use bb_lang::{Action, Block, Statement};
+use bb_lang_tree::{Action, Block, Statement};
 
 /// Returns whether a statement without blocks ends the part.
 pub fn ends(action: &Action) -> bool

@@ -4,7 +4,7 @@ ghost use Rattle.std.specs.Prelude.{◌≡◌};
 ghost use Rattle.bb_compile_scope.specs.declared.fault.CompileFault.TheVariants.{Memory as OutOfMemory};
 ghost use Rattle.bb_compile_scope.specs.Faults.{flaw_number, fault_number, lowest};
 
-use bb_lang::Place;
+use bb_lang_tree::Place;
 use std::alloc::{AllocError, AllocFailed};
 use thiserror::Error;
 

@@ -2,17 +2,17 @@
 //! its class. The emission of loops calls `kill_under`.
 
 ghost use Rattle.std.specs.Prelude.{◌≡◌, OnOk};
-ghost use Rattle.bb_lang.specs.BlockView.{statement_of, otherwise_of};
-ghost use Rattle.bb_compile_scope.specs.Killed.{unit_kind, declared, unit_class, value_class, sequence_class, bound_name};
-ghost use Rattle.bb_compile_scope.specs.Killed.{bound_class};
-ghost use Rattle.bb_compile_scope.specs.Killed.{killed_name, killed_action, killed_statement, killed_otherwise, killed_under, killed_block};
+ghost use Rattle.bb_lang_tree.specs.BlockView.{statement_of, otherwise_of};
+ghost use Rattle.bb_compile_scope.specs.Killed.{unit_kind, declared, unit_class, value_class, sequence_class, bound_name, bound_class, killed_name, killed_action, killed_statement, killed_otherwise, killed_under, killed_block};
 
 use crate::kinds::class_of;
 use crate::scope::{Scope, name_of};
 use crate::slots::{link_slot, partner_slot};
 use bb_basis::Text;
-use bb_lang::{Action, Atom, Binding, Block, Expr, ExprNode, Sequence, Statement, Variable};
-use bb_verify_effect::{ClassId, Kind, Schema};
+use bb_code::Kind;
+use bb_lang_tree::{Action, Atom, Binding, Block, Expr, ExprNode, Sequence, Statement, Variable};
+use bb_schema::Schema;
+use bb_schema_classes::ClassId;
 use std::alloc::{AllocError, Global};
 
 // Returns the kind that a name is declared with: a live unit's, or, if no class is known, one that is not a unit's.

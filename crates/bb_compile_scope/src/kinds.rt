@@ -4,8 +4,10 @@
 ghost use Rattle.std.specs.Prelude.{◌≡◌};
 ghost use Rattle.bb_compile_scope.specs.Kinds.{class_of, is_live, unit_of, equality, assigned};
 
-use bb_code::Comparison;
-use bb_verify_effect::{ClassId, Kind, Op, Schema, is_same_plain};
+use bb_code::{Comparison, Kind, Op};
+use bb_schema::Schema;
+use bb_schema_classes::ClassId;
+use bb_verify_effect::is_same_plain;
 
 /// Returns the class of a unit, if the kind is a unit's.
 pub fn class_of(kind: Kind) -> Option<ClassId>

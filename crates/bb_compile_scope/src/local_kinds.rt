@@ -6,8 +6,10 @@ ghost use Rattle.bb_code.specs.declared.parts.TheConstants.{LOCAL_LIMIT};
 ghost use Rattle.bb_compile_scope.specs.LocalKinds.{is_free, all_free, kind_at, left_kind, met_kind, kinds_left, kinds_met};
 
 use crate::kinds::is_live;
-use bb_code::LOCAL_LIMIT;
-use bb_verify_effect::{ClassId, Kind, LocalId, Schema, mark_stale};
+use bb_code::{Kind, LOCAL_LIMIT, LocalId};
+use bb_schema::Schema;
+use bb_schema_classes::ClassId;
+use bb_verify_effect::mark_stale;
 use std::marker::Model;
 
 /// What each of the locals that a code may have holds: `Any` if it is free. Contracts see it as a list.

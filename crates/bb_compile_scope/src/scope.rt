@@ -6,8 +6,10 @@ ghost use Rattle.bb_compile_scope.specs.Scope.{mark_of, back_to};
 
 use crate::local_kinds::LocalKinds;
 use bb_basis::{Items, Text};
-use bb_lang::Variable;
-use bb_verify_effect::{ClassId, Kind, LocalId, Part};
+use bb_code::{Kind, LocalId};
+use bb_lang_tree::Variable;
+use bb_schema_classes::ClassId;
+use bb_verify_effect::Part;
 use std::alloc::{AllocError, Global};
 
 /// A name in scope with its local.

@@ -4,9 +4,10 @@ ghost use Rattle.std.specs.Prelude.{◌≡◌, ◌<◌, IfSome, length, position
 ghost use Rattle.bb_compile_scope.specs.Slots.{slot_of, value_slot, link_slot, partner_slot, index_of, operand_due, dimension};
 
 use crate::fault::TextFlaw;
-use bb_lang::Relation;
-use bb_schema::{Dim, Kind as SlotKind, LabelSetId, Link};
-use bb_verify_effect::{ClassId, Kind, Schema, SlotId, SpaceId};
+use bb_code::Kind;
+use bb_lang_tree::Relation;
+use bb_schema::{Dim, Schema, SpaceId};
+use bb_schema_classes::{ClassId, Kind as SlotKind, LabelSetId, Link, SlotId};
 
 // Looks up the slot with a name in a class, with what it can hold.
 #[tactic(auto, unfolding(crate::specs::Slots::slot_of))]

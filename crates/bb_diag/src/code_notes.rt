@@ -6,12 +6,11 @@ use crate::kinds::write_kind;
 use crate::reporting::Input;
 use bb_basis::Memory;
 use bb_bundle::{ActDraft, SourceCode, SourceDraft, unbundle};
-use bb_code::Code;
+use bb_code::{Code, Flaw, Kind, Op, Place, VerifyFault};
 use bb_code_asm::write_op;
 use bb_diag_text::begin_line;
 use bb_schema::Schema;
-use bb_verify::{Flaw, Part, VerifyFault};
-use bb_verify_effect::{Frame, Kind, Locals, Op, Place, Stack, effect};
+use bb_verify_effect::{Frame, Locals, Part, Stack, effect};
 use std::alloc::Global;
 use std::fmt::Write;
 

@@ -3,7 +3,8 @@
 use crate::kinds::write_kind;
 use bb_basis::Memory;
 use bb_code::{Code, Kind, Op, OperandKind};
-use bb_schema::{Kind as SlotKind, Schema, SlotId, SpaceId};
+use bb_schema::{Schema, SpaceId};
+use bb_schema_classes::{Kind as SlotKind, SlotId};
 use std::fmt::Write;
 
 /// Appends what an op needs on the stack, the deepest first; nothing if it needs nothing.

@@ -2,7 +2,8 @@
 
 use bb_basis::Memory;
 use bb_code::Kind as FrameKind;
-use bb_schema::{ClassId, Schema};
+use bb_schema::Schema;
+use bb_schema_classes::ClassId;
 use std::fmt::Write;
 
 /// Appends the kind of a frame's entry, with names: `Old(box)`. A class that the schema lacks stays a number.

@@ -1,7 +1,8 @@
 //! What a slot holds, in words, with the names of the schema. The notes on initial units use it.
 
 use bb_basis::Memory;
-use bb_schema::{ClassId, Kind, LabelSetId, Schema, SlotId};
+use bb_schema::Schema;
+use bb_schema_classes::{ClassId, Kind, LabelSetId, SlotId};
 use std::fmt::Write;
 
 /// Appends what a slot holds.

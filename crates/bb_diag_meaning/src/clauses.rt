@@ -3,8 +3,9 @@
 use crate::scope::{Judge, until_end, word_at};
 use crate::unknown::{write_no_class, write_no_slot_of, write_no_space};
 use bb_basis::Memory;
-use bb_compile_scope::{ClassId, Place, Schema};
+use bb_compile_scope::{ClassId, Place};
 use bb_diag_text::{Token, source_tokens};
+use bb_schema::Schema;
 use std::alloc::Global;
 use std::fmt::Write;
 

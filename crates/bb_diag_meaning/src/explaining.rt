@@ -6,8 +6,9 @@ use crate::scope::{Judge, Statement};
 use crate::units::{write_gone, write_space, write_wrong_class};
 use crate::unknown::write_unknown;
 use bb_basis::Memory;
-use bb_compile_scope::{Place, Schema, TextFlaw};
+use bb_compile_scope::{Place, TextFlaw};
 use bb_diag_text::source_tokens;
+use bb_schema::Schema;
 use std::alloc::Global;
 
 // The maximum number of tokens of a statement that is examined: the time is quadratic in it.

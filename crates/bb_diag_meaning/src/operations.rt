@@ -5,7 +5,8 @@ use crate::scope::{
 };
 use crate::unknown::is_relation;
 use bb_basis::Memory;
-use bb_compile_scope::{Kind, assigned, class_of, equality, link_slot, value_slot};
+use bb_code::Kind;
+use bb_compile_scope::{assigned, class_of, equality, link_slot, value_slot};
 use bb_diag_text::Token;
 use std::fmt::Write;
 

@@ -2,7 +2,8 @@
 
 use crate::scope::{Judge, Statement, admitted_names, owning_path, word_at, write_names};
 use bb_basis::Memory;
-use bb_compile_scope::{ClassId, Kind, link_slot};
+use bb_code::Kind;
+use bb_compile_scope::{ClassId, link_slot};
 use bb_diag_text::Token;
 use std::fmt::Write;
 

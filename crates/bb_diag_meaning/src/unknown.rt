@@ -5,8 +5,9 @@ use crate::scope::{
     write_names,
 };
 use bb_basis::Memory;
-use bb_compile_scope::{ClassId, SpaceId};
+use bb_compile_scope::ClassId;
 use bb_diag_text::{Token, TokenKind, is_reserved, write_phrase, write_quoted};
+use bb_schema::SpaceId;
 use std::fmt::Write;
 
 // What a word of a statement names.

@@ -39,8 +39,8 @@ eq_turned a b = at (a == b) (b == a) refl refl
     at true false h k = absurd (eqb-false b a k (sym (eqb-true a b h)))
     at false true h k = absurd (eqb-false a b h (sym (eqb-true b a k)))
 
-turned : (p q : ℕ × ℕ) → same_pair p q ≡ false → same_pair q p ≡ false
-turned p q h = ap (λ b. b && (p.1 == q.1)) (eq_turned p.0 q.0) ∙ (ap (λ b. (q.0 == p.0) && b) (eq_turned p.1 q.1) ∙ h)
+same_pair_swapped : (p q : ℕ × ℕ) → same_pair p q ≡ false → same_pair q p ≡ false
+same_pair_swapped p q h = ap (λ b. b && (p.1 == q.1)) (eq_turned p.0 q.0) ∙ (ap (λ b. (q.0 == p.0) && b) (eq_turned p.1 q.1) ∙ h)
 
 -- what is found is another pair than one that is not there
 found_apart : (t : ℕ × ℕ → Bool) (p q : ℕ × ℕ) (pairs : List (ℕ × ℕ)) → find t pairs ≡ Some q → has_pair p pairs ≡ false → same_pair q p ≡ false
@@ -51,7 +51,7 @@ found_apart t p q (r ∷ rs) is absent = at (t r) is (found_apart t p q rs)
     parts = or_parts (same_pair p r) (has_pair p rs) absent
 
     at : (b : Bool) → cond b (Some r) (find t rs) ≡ Some q → (find t rs ≡ Some q → has_pair p rs ≡ false → same_pair q p ≡ false) → same_pair q p ≡ false
-    at true now later = let same : r ≡ q = cc in subst (λ s. same_pair s p ≡ false) same (turned p r parts.0)
+    at true now later = let same : r ≡ q = cc in subst (λ s. same_pair s p ≡ false) same (same_pair_swapped p r parts.0)
     at false now later = later now parts.1
 
 put_last : (q p : ℕ × ℕ) (pairs : List (ℕ × ℕ)) → same_pair q p ≡ false → without_pair q (pairs ++ p ∷ []) ≡ without_pair q pairs ++ p ∷ []

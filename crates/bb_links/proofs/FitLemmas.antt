@@ -127,12 +127,12 @@ module _ (k : Couple) (fits : FitsCouple k) where
         at false h = rw (pass_put (same_pair p) rest (a, b), h) (omega (arith, fewer_left (same_pair p), fits.once p))
 
     -- the unit at a singular side stands in no pair that is left
-    none_left : (side : Side) → is_singular k.singular side ≡ true → length (filter (λ p. near side p == near side (a, b)) rest) ≤ 0
-    none_left A single =
+    no_other_near : (side : Side) → is_singular k.singular side ≡ true → length (filter (λ p. near side p == near side (a, b)) rest) ≤ 0
+    no_other_near A single =
         let t : Test = λ p. p.0 == a in
         let gone : length (filter t (without_old old_a k.pairs)) ≤ 0 = rw single (found_gone t k.pairs (few_at A a single)) in
         omega (arith, fewer_old t old_b (without_old old_a k.pairs), gone)
-    none_left B single =
+    no_other_near B single =
         let t : Test = λ p. p.1 == b in
         let gone : length (filter t (without_old old_b k.pairs)) ≤ 0 = rw single (found_gone t k.pairs (few_at B b single)) in
         rw (old_swap old_b old_a k.pairs) (omega (arith, fewer_old t old_a (without_old old_b k.pairs), gone))
@@ -142,7 +142,7 @@ module _ (k : Couple) (fits : FitsCouple k) where
       where
         at : (c : Bool) → (near side (a, b) == n) ≡ c → length (filter (λ p. near side p == n) rest) + cond (near side (a, b) == n) 1 0 ≤ 1
         at true h =
-            let none : length (filter (λ p. near side p == n) rest) ≤ 0 = subst (λ m. length (filter (λ p. near side p == m) rest) ≤ 0) (eqb-true (near side (a, b)) n h) (none_left side single) in
+            let none : length (filter (λ p. near side p == n) rest) ≤ 0 = subst (λ m. length (filter (λ p. near side p == m) rest) ≤ 0) (eqb-true (near side (a, b)) n h) (no_other_near side single) in
             rw h (omega (arith, none))
         at false h = rw h (omega (arith, fewer_left (λ p. near side p == n), few_at side n single))
 

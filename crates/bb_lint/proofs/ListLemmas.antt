@@ -17,8 +17,8 @@ range_more n =
     ap (range_with_len 0) (add-one n) ∙ (range_suc 0 n ∙ ap (λ x. range_with_len 0 n ++ x ∷ []) at)
 
 module _ {Y : Type 0} (f : ℕ → Option Y) (made before : List Y) (n : ℕ) where
-  one_more : filter_map f (range_with_len 0 (n + 1)) ≡ filter_map f (range_with_len 0 n) ++ cons_option (f n) []
-  one_more = ap (filter_map f) (range_more n) ∙ filter_map-append f (range_with_len 0 n) (n ∷ [])
+  range_with_one : filter_map f (range_with_len 0 (n + 1)) ≡ filter_map f (range_with_len 0 n) ++ cons_option (f n) []
+  range_with_one = ap (filter_map f) (range_more n) ∙ filter_map-append f (range_with_len 0 n) (n ∷ [])
 
   -- where the number gives something, that is appended
   pub put_told : (y : Y) → f n ≡ Some y → made ≡ before ++ filter_map f (range_with_len 0 n)
@@ -26,14 +26,14 @@ module _ {Y : Type 0} (f : ℕ → Option Y) (made before : List Y) (n : ℕ) wh
   put_told y is so_far =
       ap (λ xs. xs ++ y ∷ []) so_far
       ∙ (append_assoc before (filter_map f (range_with_len 0 n)) (y ∷ [])
-      ∙ ap (λ xs. before ++ xs) (sym (one_more ∙ ap (λ o. filter_map f (range_with_len 0 n) ++ cons_option o []) is)))
+      ∙ ap (λ xs. before ++ xs) (sym (range_with_one ∙ ap (λ o. filter_map f (range_with_len 0 n) ++ cons_option o []) is)))
 
   -- where the number gives nothing, the list is as it was
   pub left_told : f n ≡ None → made ≡ before ++ filter_map f (range_with_len 0 n)
       → made ≡ before ++ filter_map f (range_with_len 0 (n + 1))
   left_told is so_far =
       so_far
-      ∙ ap (λ xs. before ++ xs) (sym (one_more ∙ (ap (λ o. filter_map f (range_with_len 0 n) ++ cons_option o []) is ∙ append-nil (filter_map f (range_with_len 0 n)))))
+      ∙ ap (λ xs. before ++ xs) (sym (range_with_one ∙ (ap (λ o. filter_map f (range_with_len 0 n) ++ cons_option o []) is ∙ append-nil (filter_map f (range_with_len 0 n)))))
 
 module _ {Y : Type 0} (g : ℕ → Y) (p : ℕ → Bool) (made before : List Y) (n : ℕ) where
   one_passes : map g (filter p (range_with_len 0 (n + 1))) ≡ map g (filter p (range_with_len 0 n)) ++ map g (cond (p n) (n ∷ []) [])

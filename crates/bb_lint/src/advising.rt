@@ -11,10 +11,10 @@ use crate::source_sentence::{write_clauses, write_never_rates, write_rating, wri
 use crate::triggered::{is_restless, never_rates};
 use bb_basis::{Memory, Names};
 use bb_board::Note;
-use bb_code::Schema;
 use bb_diag_text::Section;
 use bb_lint_parts::{Possible, SourceSites, Texts, write_costs};
 use bb_rules::Source;
+use bb_schema::Schema;
 use std::alloc::Global;
 
 /// An input whose schema and sources are accepted.

@@ -7,7 +7,8 @@ ghost use Rattle.bb_lint.specs.proving.Admitted.{AreAdmitted};
 ghost use Rattle.bb_schema.specs.Schema.{descends};
 
 use bb_basis::Memory;
-use bb_code::{ClassId, Code, Op, Query, Schema, SpaceId};
+use bb_code::{ClassId, Code, Op, Query};
+use bb_schema::{Schema, SpaceId};
 use std::alloc::Global;
 
 /// For each space of a schema, the classes that it admits, in ascending order. They are listed once, because untrusted

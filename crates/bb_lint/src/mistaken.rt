@@ -2,8 +2,9 @@
 //! not have. The sentences on a code (sentence.rt) check each of its ops.
 
 use bb_basis::{Memory, Names};
-use bb_code::{ClassId, Code, Op, Place, Schema, SlotId};
+use bb_code::{ClassId, Code, Op, Place, SlotId};
 use bb_rules::{Clause, Source};
+use bb_schema::Schema;
 use std::alloc::Global;
 
 // The class of foci, which is the first of every schema.

@@ -4,8 +4,9 @@ ghost use Rattle.std.specs.Prelude.{◌≡◌};
 ghost use Rattle.std.specs.List.{list_any};
 ghost use Rattle.bb_lint.specs.Ratings.{any_makes_focus, makes_focus, may_make_focus, starts_below, stays_below};
 
-use bb_code::{ClassId, Op, Schema};
+use bb_code::{ClassId, Op};
 use bb_rules::{Act, Source};
+use bb_schema::Schema;
 
 // The class of foci, which is the first of every schema.
 const FOCUS: ClassId = 0;

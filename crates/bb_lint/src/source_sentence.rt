@@ -3,9 +3,10 @@
 
 use bb_basis::Memory;
 use bb_board::ChangeKind;
-use bb_code::{ClassId, Schema, SlotId, SpaceId};
+use bb_code::{ClassId, SlotId};
 use bb_lint_parts::{Possible, Site, SourceSites};
 use bb_rules::{Clause, ClauseList, Source};
+use bb_schema::{Schema, SpaceId};
 use std::fmt::Write;
 
 // Begins a warning about a source or one of its parts, and appends where its subject is.

@@ -3,7 +3,8 @@
 ghost use Rattle.std.specs.Prelude.{◌≡◌, ◌<◌, length};
 ghost use Rattle.bb_lint.specs.Tests.{held_class, is_vain_at, is_vain_test, related, unit_class};
 
-use bb_code::{ClassId, Kind, Op, Place, Schema};
+use bb_code::{ClassId, Kind, Op, Place};
+use bb_schema::Schema;
 use bb_verify::{Checked, Frame};
 
 // Returns whether one of two classes descends from the other.

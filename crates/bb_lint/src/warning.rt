@@ -10,7 +10,8 @@ use crate::finds::{Admitted, finds_nothing};
 use crate::unused::named_queries;
 use crate::vain::is_vain_at;
 use bb_basis::Memory;
-use bb_code::{Code, Place, Schema};
+use bb_code::{Code, Place};
+use bb_schema::Schema;
 use bb_verify::Checked;
 use std::alloc::Global;
 

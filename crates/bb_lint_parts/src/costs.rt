@@ -4,8 +4,8 @@ use crate::cost_notes::write_cost_notes;
 use crate::source_sites::Texts;
 use crate::widths::{NUMBERS, Widths, write_left, write_number, write_right};
 use bb_basis::Memory;
-use bb_code::Schema;
 use bb_rules::{Act, Source};
+use bb_schema::Schema;
 use bb_verify::{Checked, FOUND_LIMIT};
 use std::alloc::Global;
 

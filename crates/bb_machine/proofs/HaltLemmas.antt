@@ -137,9 +137,9 @@ module _ (b : Board) where
   -- ---- ops on numbers, truth values, texts, labels and intervals
 
   -- one value of a sort becomes another
-  turned : {A : Type 0} (of : Value → Result A Halt) (made : A → Value) (m : Machine) → ((v : Value) → EndsFor b (of v))
+  turn_ends : {A : Type 0} (of : Value → Result A Halt) (made : A → Value) (m : Machine) → ((v : Value) → EndsFor b (of v))
       → EndsFor b (pop m >>= λ v. of v.0 >>= λ x. push (made x) v.1)
-  turned of made m sort = part (pop m) _ (ends_pop m) (λ v. part (of v.0) _ (sort v.0) (λ x. ends_push (made x) v.1))
+  turn_ends of made m sort = part (pop m) _ (ends_pop m) (λ v. part (of v.0) _ (sort v.0) (λ x. ends_push (made x) v.1))
 
   -- two values of a sort become one
   joined : {A : Type 0} (of : Value → Result A Halt) (made : A → A → Value) (m : Machine) → ((v : Value) → EndsFor b (of v))
@@ -153,7 +153,7 @@ module _ (b : Board) where
 
   pub ends_divide : (d : Division) (n : ℤ) (m : Machine) → EndsFor b (divide d n m)
   unfolding divide
-  ends_divide d n m = turned int_of (λ x. values.Int (divided d x n)) m ends_int
+  ends_divide d n m = turn_ends int_of (λ x. values.Int (divided d x n)) m ends_int
 
   pub ends_compare : (c : Comparison) (m : Machine) → EndsFor b (compare c m)
   unfolding compare
@@ -177,7 +177,7 @@ module _ (b : Board) where
 
   pub ends_negate : (m : Machine) → EndsFor b (negate m)
   unfolding negate
-  ends_negate m = turned bool_of (λ x. values.Bool (not x)) m ends_bool
+  ends_negate m = turn_ends bool_of (λ x. values.Bool (not x)) m ends_bool
 
   pub ends_combine : (l : Logic) (m : Machine) → EndsFor b (combine l m)
   unfolding combine
@@ -189,7 +189,7 @@ module _ (b : Board) where
 
   pub ends_bound : (e : Bound) (m : Machine) → EndsFor b (bound e m)
   unfolding bound
-  ends_bound e m = turned interval_of (λ x. values.Int (bound_of e x)) m ends_interval
+  ends_bound e m = turn_ends interval_of (λ x. values.Int (bound_of e x)) m ends_interval
 
   -- ---- ops that only read the blackboard
 

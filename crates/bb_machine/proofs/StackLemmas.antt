@@ -6,17 +6,17 @@ use Rattle.std.proofs.lemmas.List.{reverse-append, length-reverse, reverse-rever
 use Rattle.bb_machine.specs.declared.value.Value.{Value}
 use Rattle.bb_machine.specs.Machine.{Machine, with_stack, pop_many}
 
-turned : (A : Type 0) (kept popped : List A) → reverse (kept ++ popped) ≡ reverse popped ++ reverse kept
-turned A kept popped = reverse-append kept popped
+reverse_append : (A : Type 0) (kept popped : List A) → reverse (kept ++ popped) ≡ reverse popped ++ reverse kept
+reverse_append A kept popped = reverse-append kept popped
 
 newest_taken : (A : Type 0) (kept popped : List A) (n : ℕ) → n ≡ length popped → take n (reverse (kept ++ popped)) ≡ reverse popped
 newest_taken A kept popped n long =
-    ap (take n) (turned A kept popped)
+    ap (take n) (reverse_append A kept popped)
     ∙ (ap (λ k. take k (reverse popped ++ reverse kept)) (long ∙ sym (length-reverse popped)) ∙ take-append_seam (reverse popped) (reverse kept))
 
 newest_dropped : (A : Type 0) (kept popped : List A) (n : ℕ) → n ≡ length popped → drop n (reverse (kept ++ popped)) ≡ reverse kept
 newest_dropped A kept popped n long =
-    ap (drop n) (turned A kept popped)
+    ap (drop n) (reverse_append A kept popped)
     ∙ (ap (λ k. drop k (reverse popped ++ reverse kept)) (long ∙ sym (length-reverse popped)) ∙ drop-append_seam (reverse popped) (reverse kept))
 
 -- entries that are split off the end of a `Vec` are popped

@@ -17,8 +17,9 @@ use crate::outcome::Stuck;
 use crate::reading::{live, pop_live, pop_unit};
 use crate::value::Value;
 use crate::{Board, CreateFault, Reason, Said};
-use bb_code::{ClassId, LinkChange, SlotId, SpaceId};
-use bb_schema::{UnitId, Value as SlotValue};
+use bb_code::LinkChange;
+use bb_schema::{SpaceId, UnitId};
+use bb_schema_classes::{ClassId, SlotId, Value as SlotValue};
 use std::alloc::Global;
 
 // Why a change cannot be made.

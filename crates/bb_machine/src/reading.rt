@@ -17,10 +17,10 @@ use crate::outcome::Stuck;
 use crate::sequence::Sequence;
 use crate::text_ref::TextRef;
 use crate::value::Value;
-use bb_code::{
-    ClassId, Code, DimValue, LabelId, LabelSetId, LocalId, OperandKind, Place, Query, SlotId,
-};
-use bb_schema::{Kind, Schema, UnitId};
+use bb_code::{Code, LocalId, Place};
+use bb_pattern::{DimValue, OperandKind, Query};
+use bb_schema::{Schema, UnitId};
+use bb_schema_classes::{ClassId, Kind, LabelId, LabelSetId, SlotId};
 use std::alloc::Global;
 
 /// Pushes a text of the code.

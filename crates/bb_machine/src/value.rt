@@ -13,7 +13,8 @@ use crate::sequence::Sequence;
 use crate::text_ref::TextRef;
 use bb_basis::Memory;
 use bb_board::Said;
-use bb_schema::{LabelId, LabelSetId, UnitId, Value as SlotValue};
+use bb_schema::UnitId;
+use bb_schema_classes::{LabelId, LabelSetId, Value as SlotValue};
 
 /// A value, tagged with its kind.
 #[derive(Drop)]

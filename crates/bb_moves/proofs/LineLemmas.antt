@@ -3,7 +3,7 @@ use Rattle.std.proofs.Common.{◌≡◌, ◌⊎◌, inl, inr, ℕ, ◌+◌, ◌<
 use Rattle.std.proofs.lemmas.List.{nil_from_length}
 use Rattle.std.specs.Str.Lines.{lines}
 use Rattle.bb_basis.specs.Results.{◌>>=◌, map_err, try_fold_at}
-use Rattle.bb_basis.proofs.IntoMapLemmas.{next_one, none_left}
+use Rattle.bb_basis.proofs.IntoMapLemmas.{next_one, length_drop_all}
 use Rattle.bb_schema.specs.Schema.{Schema}
 use Rattle.bb_moves.specs.Faults.{fault_at}
 use Rattle.bb_moves.specs.MovesText.{Progress, after_line, at_end, moves_of, nothing_read}
@@ -42,5 +42,5 @@ module _ (schema : Schema) (text : List ℕ) where
   unfolding moves_of try_fold_at
   lines_end p k last so_far =
       let ended : whole ≡ Ok p =
-      sym so_far ∙ ap (try_fold_at fault_at (after_line schema) k p) (nil_from_length (drop k (lines text)) (none_left (lines text) k (omega arith))) in
+      sym so_far ∙ ap (try_fold_at fault_at (after_line schema) k p) (nil_from_length (drop k (lines text)) (length_drop_all (lines text) k (omega arith))) in
       ap (λ r. r >>= at_end (length (lines text))) ended ∙ ap (λ n. at_end n p) (sym last)

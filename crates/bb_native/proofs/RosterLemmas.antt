@@ -35,9 +35,9 @@ still_open m (z ∷ zs) (suc i) y o h =
     ap (λ b. b && all_open (map m (set zs i y))) p.0 ∙ still_open m zs i y o p.1
 
 -- a call leaves it open, under its name
-pub kept : {X E : Type 0} (before after : Native) (unit : ℕ) (seen : Sight) (r : Result X E) → OnOk r (after ≡ after_act before unit seen) → OnErr r (after ≡ before) → (after.is_open ≡ before.is_open) × (unclosed after ≡ unclosed before)
-kept before after unit seen (Ok x) ok err = (ap (λ (n : Native). n.is_open) ok, ap unclosed ok)
-kept before after unit seen (Err e) ok err = (ap (λ (n : Native). n.is_open) err, ap unclosed err)
+pub acts_stay_open : {X E : Type 0} (before after : Native) (unit : ℕ) (seen : Sight) (r : Result X E) → OnOk r (after ≡ after_act before unit seen) → OnErr r (after ≡ before) → (after.is_open ≡ before.is_open) × (unclosed after ≡ unclosed before)
+acts_stay_open before after unit seen (Ok x) ok err = (ap (λ (n : Native). n.is_open) ok, ap unclosed ok)
+acts_stay_open before after unit seen (Err e) ok err = (ap (λ (n : Native). n.is_open) err, ap unclosed err)
 
 seen_at : {A B : Type 0} (f : A → B) (xs : List A) (i : ℕ) (x : A) → i < length xs → x ≡ get_or xs i x → slice_get (map f xs) i ≡ Some (f x)
 seen_at f [] i x lt at = absurd (omega arith)

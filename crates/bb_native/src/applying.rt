@@ -14,7 +14,8 @@ use crate::denial::Denial;
 use crate::refusal::Refusal;
 use bb_basis::Text;
 use bb_board::{Board, Said};
-use bb_schema::{ClassId, SlotId, SpaceId, TEXT_LIMIT, UnitId, Value};
+use bb_schema::{SpaceId, UnitId};
+use bb_schema_classes::{ClassId, SlotId, TEXT_LIMIT, Value};
 use std::alloc::Global;
 
 /// Applies an ask to a blackboard, or returns the first reason why it is not applied. `Refused`, `Full`: the blackboard

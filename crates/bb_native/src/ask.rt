@@ -1,7 +1,8 @@
 //! The changes that a native asks for. Natives return lists of asks; their caller checks and applies each ask.
 
 use bb_basis::Text;
-use bb_schema::{UnitId, Value};
+use bb_schema::UnitId;
+use bb_schema_classes::Value;
 
 /// A change that a native asks for. Slots, spaces and classes are given by name. They need not exist: each ask is
 /// checked before it is applied.

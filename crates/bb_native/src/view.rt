@@ -13,8 +13,10 @@ ghost use Rattle.bb_board.specs.May.{was};
 ghost use Rattle.bb_native.specs.Sight.{sight_of};
 
 use bb_basis::Memory;
-use bb_board::{Board, DimValue, Query};
-use bb_schema::{ClassId, Schema, SlotId, SpaceId, UnitId, Value};
+use bb_board::Board;
+use bb_pattern::{DimValue, Query};
+use bb_schema::{Schema, SpaceId, UnitId};
+use bb_schema_classes::{ClassId, SlotId, Value};
 use std::marker::Model;
 
 /// A blackboard that can be read but not changed. Its notes are hidden, so that natives can't depend on when notes were

@@ -29,5 +29,5 @@ some_nodes (is_label dim operand) = omega arith
 none_of : (n : ℕ) → 0 < n → None ≡ left_of 0 n
 none_of n some = rw (lt-leb n 0 some) refl
 
-pub none_left : (p : Tree) (room : ℕ) → room ≡ 0 → None ≡ room_after room p
-none_left p room is = rw is (none_of (node_count p) (some_nodes p))
+pub no_room_after : (p : Tree) (room : ℕ) → room ≡ 0 → None ≡ room_after room p
+no_room_after p room is = rw is (none_of (node_count p) (some_nodes p))

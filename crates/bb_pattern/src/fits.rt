@@ -7,7 +7,8 @@ ghost use Rattle.bb_pattern.specs.View.{trees_of};
 use crate::fault::PatternFault;
 use crate::pattern::{Node, Pattern};
 use crate::value::OperandKind;
-use bb_schema::{ClassId, Dim, Schema, SpaceId};
+use bb_schema::{Dim, Schema, SpaceId};
+use bb_schema_classes::ClassId;
 
 /// The maximum number of nodes of a pattern.
 pub const NODE_LIMIT: usize = 64;

@@ -7,7 +7,8 @@ use crate::fault::PatternFault;
 use crate::pattern::Pattern;
 use crate::value::OperandKind;
 use bb_basis::Items;
-use bb_schema::{ClassId, Schema, SpaceId};
+use bb_schema::{Schema, SpaceId};
+use bb_schema_classes::ClassId;
 
 /// A query for the units of a class, or of one below it, that are in a space and satisfy a pattern (GBBopen Reference
 /// Manual, find-instances).

@@ -3,7 +3,7 @@
 ghost use Rattle.std.specs.Prelude.{◌≡◌};
 ghost use Rattle.bb_pattern.specs.Values.{dim_value_of, kind_of_operand};
 
-use bb_schema::{LabelId, LabelSetId, Value};
+use bb_schema_classes::{LabelId, LabelSetId, Value};
 
 /// The value of a unit on a dimension, or of an operand.
 #[derive(Clone, Copy, Debug, PartialEq)]

@@ -20,9 +20,9 @@ use Rattle.bb_query.specs.Knows.{Knows}
 use Rattle.bb_query.specs.PresentValues.{present_values}
 use Rattle.bb_query.proofs.WholeLemmas.{passes_both}
 
-goes_on : {classes : List Class} {a b c : ℕ} → Descends classes a b → Descends classes b c → Descends classes a c
-goes_on (itself a) d = d
-goes_on (through_parent a p b is up) d = through_parent a p _ is (goes_on up d)
+descends_on : {classes : List Class} {a b c : ℕ} → Descends classes a b → Descends classes b c → Descends classes a c
+descends_on (itself a) d = d
+descends_on (through_parent a p b is up) d = through_parent a p _ is (descends_on up d)
 
 module _ (s : Schema) (u : Units) (t : Spaces) (knows : Knows s u t) (q : Query) where
   module _ (parents : ParentsAreEarlier s.classes) (all : list_all (λ d. descends s d q.class) (classes_in s q.space) ≡ true) where
@@ -30,7 +30,7 @@ module _ (s : Schema) (u : Units) (t : Spaces) (knows : Knows s u t) (q : Query)
     of_admitted : (c : ℕ) → allowed s q.space c ≡ true → descends s c q.class ≡ true
     of_admitted c admitted =
         let both = passes_both (λ d. descends_in s.classes c d) (λ d. descends s d q.class) (classes_in s q.space) admitted all in
-        descends_complete s.classes parents c q.class (goes_on (climbs_sound s.classes both.item c c both.first) (climbs_sound s.classes q.class both.item both.item both.second))
+        descends_complete s.classes parents c q.class (descends_on (climbs_sound s.classes both.item c c both.first) (climbs_sound s.classes q.class both.item both.item both.second))
 
     of_live : (o : Option Unit) → is_some o ≡ true → IfSome (option_map (λ (x : Unit). x.class) o) (λ class. IsTrue (allowed s q.space class))
         → option_map_or (λ class. descends s class q.class) (option_map (λ (x : Unit). x.class) o) false ≡ true

@@ -150,8 +150,8 @@ module _ (s : Schema) (u : Units) (fits : unit_laws.Fits u) (same : u.layout ≡
   unit_has : (n slot : ℕ) (x : Unit) (v : Value) → fin.get u.units n ≡ Some x → list_any (λ m. m == slot) (slots_of s x.class) ≡ true → default_of s slot ≡ Some v → has_slot u n slot ≡ true
   unit_has n slot x v there listed default = rw (there, same, slots_kept s x.class, listed, default_kept s slot, default) refl
 
-  held : (n slot : ℕ) (x : Unit) (v value : Value) (kind : Kind) → fin.get u.units n ≡ Some x → value_of u n slot ≡ Some value → default_of s slot ≡ Some v → kind_of_value v ≡ kind → value_fits u.layout.label_counts kind value ≡ true
-  held n slot x v value kind there is default of_kind =
+  value_of_kind : (n slot : ℕ) (x : Unit) (v value : Value) (kind : Kind) → fin.get u.units n ≡ Some x → value_of u n slot ≡ Some value → default_of s slot ≡ Some v → kind_of_value v ≡ kind → value_fits u.layout.label_counts kind value ≡ true
+  value_of_kind n slot x v value kind there is default of_kind =
       let at : value_at x.values slot ≡ Some value = sym (ap (option_and_then (λ (x : Unit). value_at x.values slot)) there) ∙ is in
       let known : layouts.default_at u.layout.defaults slot ≡ Some v = ap (λ (l : layouts.Layout). layouts.default_at l.defaults slot) same ∙ (default_kept s slot ∙ default) in
       let holds : layouts.can_hold u.layout slot value ≡ true = (fits.units n x there).values slot value at in
@@ -161,7 +161,7 @@ module _ (s : Schema) (u : Units) (fits : unit_laws.Fits u) (same : u.layout ≡
   on_by : (n c : ℕ) (d : Dim) (x : Unit) (suit : Suits s c d) (default : HasDefault s suit.slot suit.kind) (o : Option Value) → fin.get u.units n ≡ Some x → value_of u n suit.slot ≡ o → is_some o ≡ true → HasOn s u n c d
   on_by n c d x suit default None there is some = absurd cc
   on_by n c d x suit default (Some value) there is some =
-      let sort = sort_of u.layout.label_counts d.set suit.kind value suit.fit (held n suit.slot x default.value value suit.kind there is default.is default.of_kind) in
+      let sort = sort_of u.layout.label_counts d.set suit.kind value suit.fit (value_of_kind n suit.slot x default.value value suit.kind there is default.is default.of_kind) in
       record { value = sort.dim_value; is = rw (suit.named, is) sort.is; kind = sort.kind }
 
   has_on : (n : ℕ) (d : Dim) (x : Unit) → fin.get u.units n ≡ Some x → Suits s x.class d → HasOn s u n x.class d
@@ -196,5 +196,5 @@ module _ (s : Schema) (fits : schema_laws.Fits s) where
   whole_by u n w None units same there live admits = absurd cc
   whole_by u n w (Some x) units same there live admits = whole_on s u units same n x (dims_of s w) there (each_in w x.class (slice_get s.spaces w) refl admits)
 
-  pub whole : (u : Units) (n w : ℕ) → unit_laws.Fits u → is_live u n ≡ true → Admits s u n w → map kind_of_operand (present_values s u n w) ≡ map kind_on (dims_of s w)
-  whole u n w units live admits = whole_by u n w (fin.get u.units n) units admits.layout refl live admits.allowed
+  pub present_kinds : (u : Units) (n w : ℕ) → unit_laws.Fits u → is_live u n ≡ true → Admits s u n w → map kind_of_operand (present_values s u n w) ≡ map kind_on (dims_of s w)
+  present_kinds u n w units live admits = whole_by u n w (fin.get u.units n) units admits.layout refl live admits.allowed

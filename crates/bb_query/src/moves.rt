@@ -5,7 +5,8 @@ ghost use Rattle.bb_query.specs.Moves.{reading, values_anew, moves_for};
 
 use bb_basis::{Items, Memory};
 use bb_pattern::DimValue;
-use bb_schema::{Schema, SlotId, SpaceId, UnitId, Value};
+use bb_schema::{Schema, SpaceId, UnitId};
+use bb_schema_classes::{SlotId, Value};
 use bb_space::Spaces;
 use std::alloc::Global;
 

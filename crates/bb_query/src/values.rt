@@ -9,7 +9,8 @@ ghost use Rattle.bb_units.specs.Units.{is_live, value_of};
 
 use bb_basis::{Items, Memory};
 use bb_pattern::DimValue;
-use bb_schema::{ClassId, Schema, SlotId, SpaceId, UnitId};
+use bb_schema::{Schema, SpaceId, UnitId};
+use bb_schema_classes::{ClassId, SlotId};
 use bb_units::Units;
 use std::alloc::Global;
 

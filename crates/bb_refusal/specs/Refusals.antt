@@ -17,7 +17,7 @@ use Rattle.bb_refusal.specs.declared.input_fault.InputFault.{InputFault}
 use Rattle.bb_refusal.specs.declared.input_fault.InputFault.TheVariants as inputs
 use Rattle.bb_board.specs.UnitsFaults.{fault_number as units_number}
 use Rattle.bb_rules.specs.Faults.{fault_number as rule_number}
-use Rattle.bb_verify.specs.Flaws.{fault_number as flaw_number}
+use Rattle.bb_code.specs.Flaws.{fault_number as flaw_number}
 use Rattle.bb_verify.specs.Part.{part_word}
 
 -- the number of each refusal

@@ -9,11 +9,12 @@ ghost use Rattle.bb_refusal.specs.Refusals.{lang_place, lang_text, refusal_text,
 use bb_basis::Text;
 use bb_board::UnitsFault;
 use bb_bundle::BundleFault;
+use bb_code::VerifyFault;
 use bb_compile_scope::CompileFault;
 use bb_lang_tree::{LangFault, Place};
 use bb_rules::RuleFault;
 use bb_schema_classes::SchemaFault;
-use bb_verify::{Part, VerifyFault};
+use bb_verify::Part;
 use std::alloc::{AllocError, AllocFailed, Global};
 
 /// Why an input is refused: the first step that refuses it, and its fault.

@@ -4,12 +4,11 @@
 use crate::input_fault::InputFault;
 use bb_board::{UnitsFault, UnitsFlaw};
 use bb_bundle::BundleFault;
-use bb_code::CodeFault;
+use bb_code::{CodeFault, Flaw};
 use bb_compile_scope::{CompileFault, TextFlaw};
 use bb_lang_tree::{LangFault, Place};
 use bb_rules::RuleFault;
 use bb_schema_classes::{DocumentPlace, SchemaFault, SchemaFlaw};
-use bb_verify::Flaw;
 use std::error::Error;
 use std::fmt;
 use std::fmt::{Display, Formatter, Write};

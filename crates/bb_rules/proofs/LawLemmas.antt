@@ -8,7 +8,7 @@ use Rattle.bb_basis.proofs.PlacedLemmas.{map_at_ok}
 use Rattle.bb_basis.proofs.ResultLemmas.{bind_ok, same_ok, All-try_map}
 use Rattle.bb_schema.specs.Schema.{Schema, class_named, descends}
 use Rattle.bb_verify.specs.Accepted.{Checked}
-use Rattle.bb_verify.specs.Flaw.TheVariants as flaws
+use Rattle.bb_code.specs.declared.flaw.Flaw.TheVariants as flaws
 use Rattle.bb_verify.specs.Part.{writes}
 use Rattle.bb_verify.specs.PartType.{Part}
 use Rattle.bb_verify.specs.PartType.TheVariants as parts
@@ -39,8 +39,8 @@ guarded : {X E : Type 0} (b : Bool) (x y : X) (e : E) → cond b (Ok x) (Err e) 
 guarded true x y e h = (refl, same_ok x y h)
 guarded false x y e h = absurd cc
 
-within : (s : Schema) (class : ℕ) (name : List ℕ) (changed : ℕ) → class_within s class name ≡ Ok changed → descends s changed class ≡ true
-within s class name changed h =
+changed_descends : (s : Schema) (class : ℕ) (name : List ℕ) (changed : ℕ) → class_within s class name ≡ Ok changed → descends s changed class ≡ true
+changed_descends s class name changed h =
     let one = bind_ok (ok_or (class_named s name) flawed.Class) (λ c. cond (descends s c class) (Ok c) (Err flawed.Class)) changed h in
     let two = guarded (descends s one.0 class) one.0 changed flawed.Class one.2 in
     ap (λ c. descends s c class) (sym two.1) ∙ two.0
@@ -49,7 +49,7 @@ clause_within : (s : Schema) (class : ℕ) (text : ClauseText) (clause : Clause)
 clause_within s class (texts.Change kind name) clause h =
     let one = bind_ok (class_within s class name) (λ c. kind_of s c kind >>= λ change. Ok (clauses.Change change c)) clause h in
     let two = bind_ok (kind_of s one.0 kind) (λ change. Ok (clauses.Change change one.0)) clause one.2 in
-    subst (IsWithin s class) (same_ok (clauses.Change two.0 one.0) clause two.2) (within s class name one.0 one.1)
+    subst (IsWithin s class) (same_ok (clauses.Change two.0 one.0) clause two.2) (changed_descends s class name one.0 one.1)
 clause_within s class texts.Quiescence clause h = subst (IsWithin s class) (same_ok clauses.Quiescence clause h) tt
 
 clauses_within : (s : Schema) (list : ClauseList) (class : ℕ) (texts : List ClauseText) (made : List Clause) → clauses_of s list class texts ≡ Ok made → All (IsWithin s class) made

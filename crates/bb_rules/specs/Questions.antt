@@ -1,7 +1,7 @@
 -- The codes that a source may ask.
 use Rattle.std.specs.Prelude.{◌≡◌, Err}
 use Rattle.bb_verify.specs.Accepted.{Checked, IsSound}
-use Rattle.bb_verify.specs.Flaw.TheVariants as flaws
+use Rattle.bb_code.specs.declared.flaw.Flaw.TheVariants as flaws
 use Rattle.bb_verify.specs.Part.{writes}
 
 -- a code that was accepted, for a part that may not write

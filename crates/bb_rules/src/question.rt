@@ -2,7 +2,7 @@
 //! run (bb_run) asks them.
 
 ghost use Rattle.std.specs.Prelude.{◌≡◌, Err};
-ghost use Rattle.bb_verify.specs.Flaw.TheVariants.{Effect};
+ghost use Rattle.bb_code.specs.declared.flaw.Flaw.TheVariants.{Effect};
 ghost use Rattle.bb_verify.specs.Part.{writes};
 ghost use Rattle.bb_rules.specs.Own.{asks_own};
 ghost use Rattle.bb_rules.specs.Questions.{IsQuestion};

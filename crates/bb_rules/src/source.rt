@@ -4,7 +4,7 @@
 ghost use Rattle.std.specs.Prelude.{◌≡◌, Err, IfOk, IfSome, Ok, Some};
 ghost use Rattle.bb_basis.specs.Results.{Gives};
 ghost use Rattle.bb_verify.specs.Accepted.{Checked as Accepted, IsSound};
-ghost use Rattle.bb_verify.specs.Flaw.TheVariants.{Effect};
+ghost use Rattle.bb_code.specs.declared.flaw.Flaw.TheVariants.{Effect};
 ghost use Rattle.bb_verify.specs.Part.{writes};
 ghost use Rattle.bb_rules.specs.Source.{act_of, parts_fit, source_of};
 ghost use Rattle.bb_rules.specs.Law.{AreAccepted, HasSoundCodes, IsMade, IsOf};

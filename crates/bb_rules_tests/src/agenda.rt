@@ -65,13 +65,25 @@ fn agenda_after_changes(rt: HostRuntime) -> Result<(), Fail> {
     assert_eq!(rt; agenda.choose(0), Some(2));
     assert_eq!(rt; agenda.choose(151), None);
     assert_eq!(rt; pending(alloc, &agenda)?.as_slice(), [1, 2].as_slice());
-    assert_eq!(rt; listed(alloc, agenda.pending_for(1))?.as_slice(), [2].as_slice());
-    assert_eq!(rt; listed(alloc, agenda.pending_on(0, 1))?.as_slice(), [1].as_slice());
-    assert_eq!(rt; listed(alloc, agenda.pending_on(0, 2))?.as_slice(), [].as_slice());
+    assert_eq!(rt;
+        listed(alloc, agenda.pending_for(1))?.as_slice(),
+        [2].as_slice()
+    );
+    assert_eq!(rt;
+        listed(alloc, agenda.pending_on(0, 1))?.as_slice(),
+        [1].as_slice()
+    );
+    assert_eq!(rt;
+        listed(alloc, agenda.pending_on(0, 2))?.as_slice(),
+        [].as_slice()
+    );
     assert_eq!(rt; agenda.obviate(2), Ok(()));
     assert_eq!(rt; agenda.executed(1), Ok(()));
     assert_eq!(rt; pending(alloc, &agenda)?.as_slice(), [].as_slice());
-    assert_eq!(rt; listed(alloc, agenda.pending_for(1))?.as_slice(), [].as_slice());
+    assert_eq!(rt;
+        listed(alloc, agenda.pending_for(1))?.as_slice(),
+        [].as_slice()
+    );
     assert_eq!(rt; agenda.choose(0), None);
     assert_eq!(rt; agenda.status(2), Some(Status::Obviated));
     assert_eq!(rt; agenda.status(1), Some(Status::Executed));

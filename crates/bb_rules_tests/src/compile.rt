@@ -1,6 +1,8 @@
 //! Tests of the compiler: the bundle of a source, and the fault of another.
 
-use bb_compile::{CompileFault, Place, SourceCode, TextFlaw, bundle, compile, parse};
+use bb_bundle::{SourceCode, bundle};
+use bb_compile::{CompileFault, Place, TextFlaw, compile};
+use bb_lang::parse;
 use bb_schema::Schema;
 use std::alloc::Global;
 use std::test::Fail;

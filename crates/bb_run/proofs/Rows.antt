@@ -16,21 +16,21 @@ use Rattle.bb_trace.specs.Board.{Board as Blackboard, new_board, with_world}
 use Rattle.bb_trace.specs.World.{after_create}
 use Rattle.bb_agenda.specs.declared.focusing.activation.Activation.{Activation}
 use Rattle.bb_basis.specs.Results.{try_map}
-use Rattle.bb_theorem_machine.specs.Machine.{pop, pop_many, push, room}
-use Rattle.bb_theorem_machine.specs.Reading.{push_text}
-use Rattle.bb_theorem_machine.specs.Changing.{say}
-use Rattle.bb_theorem_machine.specs.Jumping.{answer, rate}
-use Rattle.bb_theorem_machine.specs.Step.{step}
-use Rattle.bb_theorem_machine.specs.Activation.{steps_from}
+use Rattle.bb_machine.specs.Machine.{pop, pop_many, push, room}
+use Rattle.bb_machine.specs.Reading.{push_text}
+use Rattle.bb_machine.specs.Changing.{say}
+use Rattle.bb_machine.specs.Jumping.{answer, rate}
+use Rattle.bb_machine.specs.Step.{step}
+use Rattle.bb_machine.specs.Activation.{steps_from}
 use Rattle.bb_code.specs.declared.parts.CodeParts.{CodeParts}
 use Rattle.bb_code.specs.declared.version.Version.TheVariants.{One}
-use Rattle.bb_verify.specs.PartType.{Part}
-use Rattle.bb_verify.specs.PartType.TheVariants.{Do, Require, Obviate, Retrigger, Revalidate}
+use Rattle.bb_verify_effect.specs.declared.part.Part.{Part}
+use Rattle.bb_verify_effect.specs.declared.part.Part.TheVariants.{Do, Require, Obviate, Retrigger, Revalidate}
 use Rattle.bb_verify.specs.Accepted.{Checked}
-use Rattle.bb_trace.specs.Clause.TheVariants as clause
-use Rattle.bb_trace.specs.Act.TheVariants.{Code}
-use Rattle.bb_trace.specs.Reaction.{Reaction}
-use Rattle.bb_trace.specs.Source.{Source}
+use Rattle.bb_rules.specs.declared.clause.Clause.TheVariants as clause
+use Rattle.bb_rules.specs.declared.source.Act.TheVariants.{Code}
+use Rattle.bb_rules.specs.declared.source.Reaction.{Reaction}
+use Rattle.bb_rules.specs.Parts.{Source}
 use Rattle.bb_trace.specs.declared.note.Note.TheVariants.{Board, Triggered, Declined, Obviated, Retriggered, Chosen, Invalid, Ended}
 use Rattle.bb_run_plan.specs.Plan.{Plan}
 use Rattle.bb_run.specs.Processing.{reacting_to_each, response_by, processing_all}

@@ -3,10 +3,10 @@ use Rattle.std.specs.Prelude.{◌≡◌, ◌⊎◌, ℕ, ◌+◌, List, [], ◌�
 use Rattle.std.specs.List.{fold}
 use Rattle.bb_agenda.specs.declared.focusing.activation.Activation.{Activation}
 use Rattle.bb_code.specs.Code.{Code}
-use Rattle.bb_theorem_machine.specs.Outcome.{Outcome}
-use Rattle.bb_theorem_machine.specs.Stop.{Stop}
-use Rattle.bb_trace.specs.Act.{Act}
-use Rattle.bb_trace.specs.Act.TheVariants as acts
+use Rattle.bb_machine.specs.declared.outcome.Outcome.{Outcome}
+use Rattle.bb_machine.specs.declared.outcome.Stop.{Stop}
+use Rattle.bb_rules.specs.declared.source.Act.{Act}
+use Rattle.bb_rules.specs.declared.source.Act.TheVariants as acts
 use Rattle.bb_trace.specs.Applied.{applied}
 use Rattle.bb_trace.specs.Ask.{Ask}
 use Rattle.bb_trace.specs.Board.{Board as Blackboard}

@@ -4,12 +4,12 @@ use Rattle.std.specs.Prelude.{slice_get}
 use Rattle.bb_agenda.specs.declared.focusing.activation.Activation.{Activation}
 use Rattle.bb_agenda.specs.Agenda.{Agenda, pending_of}
 use Rattle.bb_verify.specs.Accepted.{Checked}
-use Rattle.bb_theorem_machine.specs.Entry.{Entry}
-use Rattle.bb_theorem_machine.specs.Stop.{Stop}
-use Rattle.bb_theorem_machine.specs.Stop.TheVariants as stops
-use Rattle.bb_theorem_machine.specs.Stuck.{Stuck}
+use Rattle.bb_machine.specs.declared.outcome.Entry.{Entry}
+use Rattle.bb_machine.specs.declared.outcome.Stop.{Stop}
+use Rattle.bb_machine.specs.declared.outcome.Stop.TheVariants as stops
+use Rattle.bb_machine.specs.declared.outcome.Stuck.{Stuck}
 use Rattle.bb_theorem_machine.specs.Units.{is_full as no_unit_left}
-use Rattle.bb_trace.specs.Act.TheVariants as acts
+use Rattle.bb_rules.specs.declared.source.Act.TheVariants as acts
 use Rattle.bb_trace.specs.Applied.{applied}
 use Rattle.bb_trace.specs.Ask.{Ask}
 use Rattle.bb_trace.specs.Denial.TheVariants as denials
@@ -18,8 +18,8 @@ use Rattle.bb_trace.specs.Roster.{after_act_at, asks_at, place_of}
 use Rattle.bb_trace.specs.Sight.{Sight}
 use Rattle.bb_trace.specs.Board.{Board as Blackboard, with_world}
 use Rattle.bb_trace.specs.World.{after_take}
-use Rattle.bb_trace.specs.Reaction.{Reaction}
-use Rattle.bb_trace.specs.Source.{Source}
+use Rattle.bb_rules.specs.declared.source.Reaction.{Reaction}
+use Rattle.bb_rules.specs.Parts.{Source}
 use Rattle.bb_trace.specs.End.{End}
 use Rattle.bb_trace.specs.End as ends
 use Rattle.bb_run_plan.specs.Plan.{Plan}

@@ -9,12 +9,12 @@ use Rattle.bb_trace.specs.Events.{unit_of}
 use Rattle.bb_agenda.specs.declared.focusing.activation.Activation.{Activation}
 use Rattle.bb_agenda.specs.Agenda.{is_full, pending_for}
 use Rattle.bb_agenda.specs.Changes.{new_activation, with_activation, with_base, with_obviated}
-use Rattle.bb_theorem_machine.specs.Answer.{Answer}
-use Rattle.bb_theorem_machine.specs.Answer.TheVariants.{Rated, Yes}
+use Rattle.bb_machine.specs.declared.outcome.Answer.{Answer}
+use Rattle.bb_machine.specs.declared.outcome.Answer.TheVariants.{Rated, Yes}
 use Rattle.bb_verify.specs.Accepted.{Checked}
-use Rattle.bb_trace.specs.Reaction.{Reaction}
-use Rattle.bb_trace.specs.Source.{Source}
-use Rattle.bb_trace.specs.Match.{any_match}
+use Rattle.bb_rules.specs.declared.source.Reaction.{Reaction}
+use Rattle.bb_rules.specs.Parts.{Source}
+use Rattle.bb_rules.specs.Match.{any_match}
 use Rattle.bb_trace.specs.End.{Full}
 use Rattle.bb_trace.specs.declared.note.Note.{Note}
 use Rattle.bb_trace.specs.declared.note.Note.TheVariants as notes

@@ -1,12 +1,12 @@
 -- What is asked about events and activations leaves the blackboard unchanged.
 use Rattle.std.specs.Prelude.{◌≡◌, true, All, Contains}
 use Rattle.bb_agenda.specs.declared.focusing.activation.Activation.{Activation}
-use Rattle.bb_theorem_machine.specs.Writes.{has_no_writes}
+use Rattle.bb_machine.specs.Writes.{has_no_writes}
 use Rattle.bb_verify.specs.Accepted.{Checked}
 use Rattle.bb_trace.specs.Board.{Board as Blackboard}
 use Rattle.bb_trace.specs.Event.{Event}
-use Rattle.bb_trace.specs.Law.{HasSoundCodes}
-use Rattle.bb_trace.specs.Source.{Source}
+use Rattle.bb_rules.specs.Law.{HasSoundCodes}
+use Rattle.bb_rules.specs.Parts.{Source}
 use Rattle.bb_run_plan.specs.Plan.{Plan}
 use Rattle.bb_run.specs.State.{State}
 use Rattle.bb_run.specs.Causes.{IsAsked}

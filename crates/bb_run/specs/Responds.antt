@@ -8,7 +8,7 @@ use Rattle.bb_trace.specs.BoardNote.TheVariants.{Event as happened}
 use Rattle.bb_trace.specs.Event.{Event}
 use Rattle.bb_trace.specs.Event.TheVariants.{Quiescence as quiescence}
 use Rattle.bb_trace.specs.Native.{Native}
-use Rattle.bb_trace.specs.Source.{Source}
+use Rattle.bb_rules.specs.Parts.{Source}
 use Rattle.bb_trace.specs.End.{End}
 use Rattle.bb_trace.specs.End as ends
 use Rattle.bb_trace.specs.declared.note.Note.{Note}

@@ -1,15 +1,15 @@
 -- What the code of a run needs so that every code is executed for units that fit its part.
 use Rattle.std.specs.Prelude.{◌≡◌, All, List, Some}
 use Rattle.bb_verify.specs.Accepted.{Checked}
-use Rattle.bb_theorem_machine.specs.Entry.{Entry}
+use Rattle.bb_machine.specs.declared.outcome.Entry.{Entry}
 use Rattle.bb_theorem_machine.specs.NeverWrong.{Begins}
 use Rattle.bb_agenda.specs.declared.focusing.activation.Activation.{Activation}
 use Rattle.bb_agenda.specs.Agenda.{pending_of}
 use Rattle.bb_trace.specs.Board.{Board as Blackboard}
 use Rattle.bb_trace.specs.Event.{Event}
 use Rattle.bb_trace.specs.Events.{unit_of}
-use Rattle.bb_trace.specs.Law.{IsMade}
-use Rattle.bb_trace.specs.Reaction.{Reaction}
+use Rattle.bb_rules.specs.Law.{IsMade}
+use Rattle.bb_rules.specs.declared.source.Reaction.{Reaction}
 use Rattle.bb_run_plan.specs.Plan.{Plan}
 use Rattle.bb_run.specs.Asking.{entry_of}
 use Rattle.bb_run.specs.Knowing.{Knows}

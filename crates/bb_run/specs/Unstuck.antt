@@ -8,14 +8,14 @@ use Rattle.bb_theorem_machine.specs.Kinds.{WasOf}
 use Rattle.bb_theorem_machine.specs.NeverWrong.{Begins}
 use Rattle.bb_agenda.specs.declared.focusing.activation.Activation.{Activation}
 use Rattle.bb_agenda.specs.Agenda.{pending_of}
-use Rattle.bb_trace.specs.Act.TheVariants as acts
+use Rattle.bb_rules.specs.declared.source.Act.TheVariants as acts
 use Rattle.bb_trace.specs.Board.{Board as Blackboard}
 use Rattle.bb_trace.specs.Event.{Event}
 use Rattle.bb_trace.specs.Events.{unit_of}
-use Rattle.bb_trace.specs.Law.{HasSoundCodes, IsMade}
-use Rattle.bb_trace.specs.Match.{any_match}
-use Rattle.bb_trace.specs.Reaction.{Reaction}
-use Rattle.bb_trace.specs.Source.{Source}
+use Rattle.bb_rules.specs.Law.{HasSoundCodes, IsMade}
+use Rattle.bb_rules.specs.Match.{any_match}
+use Rattle.bb_rules.specs.declared.source.Reaction.{Reaction}
+use Rattle.bb_rules.specs.Parts.{Source}
 use Rattle.bb_trace.specs.End.{End}
 use Rattle.bb_trace.specs.End as ends
 use Rattle.bb_trace.specs.declared.note.Note.{Note}

@@ -6,9 +6,11 @@ ghost use Rattle.bb_run.specs.Asking.{attempt, entry_of, reply_by};
 ghost use Rattle.bb_run.specs.Serving.{CanExecute};
 ghost use Rattle.bb_run.specs.Emitting.{Replies};
 
-use bb_exec::{Answer, Entry, Stop, exec};
+use bb_exec::{Stop, exec};
+use bb_machine::{Answer, Entry};
+use bb_rules::Question;
 use bb_schema::UnitId;
-use bb_trace::{Board, End, Question};
+use bb_trace::{Board, End};
 use std::alloc::{AllocError, Global};
 
 /// The reply of a code that was asked.

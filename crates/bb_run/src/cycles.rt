@@ -17,8 +17,9 @@ use crate::processing::source_at;
 use crate::runner::Runner;
 use crate::state::State;
 use bb_agenda::Activation;
+use bb_rules::{Question, Source};
 use bb_run_plan::Plan;
-use bb_trace::{Ask, End, Halt, NativeSource, Note, Out, Question, Source};
+use bb_trace::{Ask, End, Halt, NativeSource, Note, Out};
 
 /// The decision before a cycle: an activation is chosen, or the run is over.
 #[derive(Clone, Copy, Debug)]

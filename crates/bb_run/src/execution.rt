@@ -3,7 +3,7 @@
 
 ghost use Rattle.std.specs.Prelude.{◌≡◌, IfOk, None, Some, option_map};
 ghost use Rattle.bb_agenda.specs.Rating.{rating_in};
-ghost use Rattle.bb_trace.specs.Act.TheVariants.{Code as DoesCode, Native};
+ghost use Rattle.bb_rules.specs.declared.source.Act.TheVariants.{Code as DoesCode, Native};
 ghost use Rattle.bb_verify.specs.Accepted.{Checked};
 ghost use Rattle.bb_run.specs.Asking.{entry_of};
 ghost use Rattle.bb_run.specs.Run.{chosen_with, executing, execution, validity, verdict_by};
@@ -16,9 +16,11 @@ use crate::calling::call;
 use crate::noting::take_noted;
 use crate::state::State;
 use bb_agenda::Activation;
-use bb_exec::{Answer, Stop, exec};
+use bb_exec::{Stop, exec};
 use bb_exec_lower::Lowered;
-use bb_trace::{Act, Board, End, NativeSource, Note, Question, Source};
+use bb_machine::Answer;
+use bb_rules::{Act, Question, Source};
+use bb_trace::{Board, End, NativeSource, Note};
 use std::alloc::{AllocError, Global};
 
 /// The verdict of a revalidation on a chosen activation.

@@ -2,7 +2,7 @@
 
 ghost use Rattle.std.specs.Prelude.{◌≡◌, ℕ, ◌+◌, ◌-◌, ℤ, List, ◌∷◌, ◌++◌};
 ghost use Rattle.bb_agenda.specs.declared.focusing.activation.Activation.{Activation};
-ghost use Rattle.bb_trace.specs.Act.{Act};
+ghost use Rattle.bb_rules.specs.declared.source.Act.{Act};
 ghost use Rattle.bb_trace.specs.Board.{Board};
 ghost use Rattle.bb_trace.specs.declared.note.Note.{Note};
 ghost use Rattle.bb_trace.specs.declared.note.Note.TheVariants.{Chosen};

@@ -3,8 +3,8 @@
 ghost use Rattle.std.specs.Prelude.{◌≡◌, IfOk, None, Some, option_map, slice_get, true};
 ghost use Rattle.bb_agenda.specs.Agenda.{pending_for};
 ghost use Rattle.bb_trace.specs.Events.{unit_of};
-ghost use Rattle.bb_trace.specs.Match.{any_match};
-ghost use Rattle.bb_trace.specs.Reaction.{Reaction};
+ghost use Rattle.bb_rules.specs.Match.{any_match};
+ghost use Rattle.bb_rules.specs.declared.source.Reaction.{Reaction};
 ghost use Rattle.bb_verify.specs.Accepted.{Checked};
 ghost use Rattle.bb_run.specs.Asking.{entry_of};
 ghost use Rattle.bb_run.specs.Processing.{if_triggered, obviated_by, reacting, rerated_by, response, source_response};
@@ -16,9 +16,10 @@ ghost use Rattle.bb_run.specs.Emitting.{IsResponse};
 use crate::reacting::{obviate_all, retrigger_all};
 use crate::state::State;
 use crate::triggering::{activate, require};
+use bb_rules::Source;
 use bb_run_plan::Plan;
 use bb_schema::Schema;
-use bb_trace::{End, Event, NativeSource, Note, Source};
+use bb_trace::{End, Event, NativeSource, Note};
 use std::alloc::AllocError;
 
 // A source and its place among the sources of a plan.

@@ -11,9 +11,10 @@ ghost use Rattle.bb_run.specs.Emitting.{IsResponse};
 use crate::asking::{Reply, ask, entry_of};
 use crate::state::State;
 use bb_agenda::{Activation, Agenda};
-use bb_exec::Answer;
+use bb_machine::Answer;
+use bb_rules::Reaction;
 use bb_schema::UnitId;
-use bb_trace::{End, Event, NativeSource, Note, Reaction};
+use bb_trace::{End, Event, NativeSource, Note};
 use std::alloc::{AllocError, Global};
 
 // The pending activations of the source at a place, in order.

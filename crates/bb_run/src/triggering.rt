@@ -11,8 +11,9 @@ ghost use Rattle.bb_run.specs.Emitting.{IsResponse};
 use crate::asking::{Reply, ask, entry_of};
 use crate::state::State;
 use bb_agenda::{Activation, AddFault};
-use bb_exec::Answer;
-use bb_trace::{End, Event, NativeSource, Note, Question};
+use bb_machine::Answer;
+use bb_rules::Question;
+use bb_trace::{End, Event, NativeSource, Note};
 use std::alloc::AllocError;
 
 /// Gives the source at a place an activation for an event, with this base. The run is over if the agenda is full.

@@ -2,7 +2,7 @@
 
 ghost use Rattle.std.specs.Prelude.{◌≡◌, [], All, Some, IfOk, IsSomeAnd, false, map};
 ghost use Rattle.bb_run_plan.specs.Foci.{first_agenda};
-ghost use Rattle.bb_trace.specs.Law.{IsMade};
+ghost use Rattle.bb_rules.specs.Law.{IsMade};
 ghost use Rattle.bb_trace.specs.Page.{stopped_by_write};
 ghost use Rattle.bb_run.specs.Causes.{LacksNative};
 ghost use Rattle.bb_run.specs.Finish.{end_of};

@@ -39,9 +39,9 @@ module _ (plan : Plan) where
       (ap (λ l. record { emitted = l; standing = record { state = p.state; made = made; pause = Over (ends.Stuck reason) } }) (append-nil p.emitted))
 
   -- where it left the run at its limit, they go on
-  goes_on : (made n : ℕ) (p : Stretch) → p.end ≡ Some ends.Limit
+  limit_goes_on : (made n : ℕ) (p : Stretch) → p.end ≡ Some ends.Limit
       → both (after made p) (moved plan (advance n)) ≡ (let q = advanced plan made n p.state in record { emitted = p.emitted ++ q.emitted; standing = q.standing })
-  goes_on made n p is =
+  limit_goes_on made n p is =
       subst (λ e. both (after made (record p { end = e })) (moved plan (advance n)) ≡ (let q = advanced plan made n p.state in record { emitted = p.emitted ++ q.emitted; standing = q.standing })) (sym is) refl
 
   -- the second of two moves, by how the first came out
@@ -52,7 +52,7 @@ module _ (plan : Plan) where
       let counted : made + choices_of p ≡ made + m = ap (λ k. made + k) meets.1.0 in
       let all : choices_of q ≡ choices_of p + choices_of r = ap choices_of meets.1.1.1 ∙ choices_after p.emitted r in
       let number : (made + m) + choices_of r ≡ made + choices_of q = omega (arith, counted, all) in
-      goes_on (made + choices_of p) n p meets.0
+      limit_goes_on (made + choices_of p) n p meets.0
       ∙ (ap (λ k. let t = advanced plan k n p.state in record { emitted = p.emitted ++ t.emitted; standing = t.standing }) counted
       ∙ (ap (λ k. record { emitted = p.emitted ++ r.emitted; standing = record { state = r.state; made = k; pause = pause_by r.end } }) number
       ∙ ap (λ x. after (made + choices_of q) x) (sym meets.1.1.1)))

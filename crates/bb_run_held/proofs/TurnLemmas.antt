@@ -166,14 +166,14 @@ module _ (plan : Plan) where
       (quiet_by n made w (going made s) (then_left made n) w.end refl early silent (turn_is made s None is)
       (λ u a chosen. sym (cycles_again plan made n u a chosen)) rest)
 
-  turned : (n made : ℕ) (s : State) → Turned n made s
-  turned zero made s = turned_by 0 made s (choice plan s) refl (chosen_none made)
-  turned (suc n) made s =
-      turned_by (suc n) made s (choice plan s) refl (λ u a chosen. chosen_more n made u a (λ number t. turned n number t) chosen)
+  is_turned : (n made : ℕ) (s : State) → Turned n made s
+  is_turned zero made s = turned_by 0 made s (choice plan s) refl (chosen_none made)
+  is_turned (suc n) made s =
+      turned_by (suc n) made s (choice plan s) refl (λ u a chosen. chosen_more n made u a (λ number t. is_turned n number t) chosen)
 
   -- by how the run stands
   turns_by : (t : Standing) (n : ℕ) (pause : Pause) → t.pause ≡ pause → IsTurns t (moved plan (advance n) t)
-  turns_by t n Going is = subst (λ x. IsTurns (record t { pause = x }) (moved plan (advance n) (record t { pause = x }))) (sym is) (turned n t.made t.state)
+  turns_by t n Going is = subst (λ x. IsTurns (record t { pause = x }) (moved plan (advance n) (record t { pause = x }))) (sym is) (is_turned n t.made t.state)
   turns_by t n Resting is = subst (λ x. IsTurns (record t { pause = x }) (moved plan (advance n) (record t { pause = x }))) (sym is) (no_turn (record t { pause = Resting }))
   turns_by t n (Due a) is = subst (λ x. IsTurns (record t { pause = x }) (moved plan (advance n) (record t { pause = x }))) (sym is) (no_turn (record t { pause = Due a }))
   turns_by t n (Over end) is = subst (λ x. IsTurns (record t { pause = x }) (moved plan (advance n) (record t { pause = x }))) (sym is) (no_turn (record t { pause = Over end }))

@@ -9,7 +9,8 @@ use bb_agenda::{Agenda, Focus, RatedSource};
 use bb_basis::Text;
 use bb_board::{Board, Note as BoardNote};
 use bb_rules::Source;
-use bb_schema::{ClassId, SlotId, UnitId, Value};
+use bb_schema::UnitId;
+use bb_schema_classes::{ClassId, SlotId, Value};
 use std::alloc::{AllocError, Global};
 
 // The built-in class, and its slots.

@@ -6,9 +6,9 @@ ghost use Rattle.bb_run_plan.specs.Concerned.{concerned};
 
 use crate::concerned::Concerned;
 use bb_basis::{Items, Memory};
-use bb_board::{Event, SharedSchema};
+use bb_board::Event;
 use bb_rules::Source;
-use bb_schema::Schema;
+use bb_schema::{Schema, SharedSchema};
 use std::alloc::{AllocError, Global};
 use std::marker::Model;
 

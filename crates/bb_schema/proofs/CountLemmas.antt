@@ -18,16 +18,16 @@ few_label_sets s fits = subst (λ n. n ≤ LABEL_SET_LIMIT) (length-map s.label_
 pub few_spaces : (s : Schema) → Fits s → length s.spaces ≤ SPACE_LIMIT
 few_spaces s fits = subst (λ n. n ≤ SPACE_LIMIT) (length-map s.spaces (λ (p : Space). p.name)) fits.spaces.named.few
 
-one_more : (b : Bool) (n : ℕ) (rest : List ℕ) (m : ℕ) → length rest ≤ m
+at_most_one_more : (b : Bool) (n : ℕ) (rest : List ℕ) (m : ℕ) → length rest ≤ m
     → length (if b then n ∷ rest else rest) ≤ suc m
-one_more true n rest m le = omega (arith, le)
-one_more false n rest m le = omega (arith, le)
+at_most_one_more true n rest m le = omega (arith, le)
+at_most_one_more false n rest m le = omega (arith, le)
 
 -- each couple has a first slot of its own
 few_firsts : (n : ℕ) (slots : List Slot) → length (firsts n slots) ≤ length slots
 unfolding firsts
 few_firsts n [] = omega arith
-few_firsts n (t ∷ ts) = one_more (comes_first n t) n (firsts (suc n) ts) (length ts) (few_firsts (suc n) ts)
+few_firsts n (t ∷ ts) = at_most_one_more (comes_first n t) n (firsts (suc n) ts) (length ts) (few_firsts (suc n) ts)
 
 pub few_couples : (s : Schema) → Fits s → length (couples s) ≤ SLOT_LIMIT
 few_couples s fits = let few = few_firsts 0 s.slots in omega (arith, few, fits.few_slots)

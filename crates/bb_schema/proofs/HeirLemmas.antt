@@ -48,15 +48,15 @@ record IsGiven {X : Type 0} (f : X → Option ℕ) (xs : List X) (e : ℕ) : Typ
   pub at : slice_get xs number ≡ Some item
   pub gives : f item ≡ Some e
 
-later : {X : Type 0} (f : X → Option ℕ) (x : X) (xs : List X) (e : ℕ) → IsGiven f xs e → IsGiven f (x ∷ xs) e
-later f x xs e given = record { number = suc given.number; item = given.item; at = given.at; gives = given.gives }
+given_later : {X : Type 0} (f : X → Option ℕ) (x : X) (xs : List X) (e : ℕ) → IsGiven f xs e → IsGiven f (x ∷ xs) e
+given_later f x xs e given = record { number = suc given.number; item = given.item; at = given.at; gives = given.gives }
 
 given_first : {X : Type 0} (f : X → Option ℕ) (x : X) (xs : List X) (d e : ℕ) (b : Bool) (rest : Bool) → f x ≡ Some d → (d == e) ≡ b → (rest ≡ true → IsGiven f xs e) → (b || rest) ≡ true → IsGiven f (x ∷ xs) e
 given_first f x xs d e true rest is same more h = record { number = 0; item = x; at = refl; gives = is ∙ ap (λ n. Some n) (eqb-true d e same) }
-given_first f x xs d e false rest is other more h = later f x xs e (more h)
+given_first f x xs d e false rest is other more h = given_later f x xs e (more h)
 
 given_by : {X : Type 0} (f : X → Option ℕ) (x : X) (xs : List X) (e : ℕ) (o : Option ℕ) → f x ≡ o → (has (filter_map f xs) e ≡ true → IsGiven f xs e) → has (cons_option o (filter_map f xs)) e ≡ true → IsGiven f (x ∷ xs) e
-given_by f x xs e None is more h = later f x xs e (more h)
+given_by f x xs e None is more h = given_later f x xs e (more h)
 given_by f x xs e (Some d) is more h = given_first f x xs d e (d == e) (has (filter_map f xs) e) is refl more h
 
 given : {X : Type 0} (f : X → Option ℕ) (xs : List X) (e : ℕ) → has (filter_map f xs) e ≡ true → IsGiven f xs e

@@ -108,8 +108,6 @@ has_slot_first s name set c = ap (λ (o : Option ℕ). option_map_or (λ n. opti
 pub have_slots_first : (s : Schema) (name : List ℕ) (set : Option ℕ) (listed : List ℕ) → list_all (has_slot_at s (first_named s.slots name) set) listed ≡ list_all (has_slot_for s name set) listed
 have_slots_first s name set listed = list_all_same (has_slot_at s (first_named s.slots name) set) (has_slot_for s name set) (has_slot_first s name set) listed
 
-
-
 map_same : {X Y : Type 0} (f g : X → Y) → ((x : X) → f x ≡ g x) → (xs : List X) → map f xs ≡ map g xs
 map_same f g h [] = refl
 map_same f g h (x ∷ xs) = ap (λ y. y ∷ map f xs) (h x) ∙ ap (λ ys. g x ∷ ys) (map_same f g h xs)

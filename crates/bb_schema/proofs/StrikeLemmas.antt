@@ -26,9 +26,9 @@ found_by : (p : ℕ → Bool) (x : ℕ) (xs : List ℕ) (b : Bool) → p x ≡ b
 found_by p x xs true is more h = record { one = x; there = or_left (x == x) (has xs x) (eq-eqb x x refl); passes = is }
 found_by p x xs false is more h = let f = more h in record { one = f.one; there = or_right (x == f.one) (has xs f.one) f.there; passes = f.passes }
 
-pub found : (p : ℕ → Bool) (xs : List ℕ) → list_any p xs ≡ true → IsFound p xs
-found p [] h = absurd cc
-found p (x ∷ xs) h = found_by p x xs (p x) refl (found p xs) h
+pub any_is_found : (p : ℕ → Bool) (xs : List ℕ) → list_any p xs ≡ true → IsFound p xs
+any_is_found p [] h = absurd cc
+any_is_found p (x ∷ xs) h = found_by p x xs (p x) refl (any_is_found p xs) h
 
 passes_by : (p : ℕ → Bool) (x n : ℕ) (xs : List ℕ) (b : Bool) → (x == n) ≡ b → p n ≡ true → (has xs n ≡ true → list_any p xs ≡ true) → (b || has xs n) ≡ true → (p x || list_any p xs) ≡ true
 passes_by p x n xs true same passes more h = or_left (p x) (list_any p xs) (ap p (eqb-true x n same) ∙ passes)
@@ -67,7 +67,7 @@ module _ (classes : List Class) (slots : List Slot) (sound : AreSound classes sl
   -- what is struck is related to an heir
   pub struck_as : (d c : ℕ) → strikes_in classes slots d c ≡ true → IsFound (related_in classes c) (heirs_in classes slots d)
   unfolding strikes_in
-  struck_as d c h = found (related_in classes c) (heirs_in classes slots d) h
+  struck_as d c h = any_is_found (related_in classes c) (heirs_in classes slots d) h
 
   pub related_struck : (d c : ℕ) → related_in classes d c ≡ true → strikes_in classes slots d c ≡ true
   related_struck d c h = struck_by d d c (heirs_first classes slots sound d) (related_back classes sound.parents d c h)

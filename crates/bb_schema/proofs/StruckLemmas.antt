@@ -15,11 +15,11 @@ use Rattle.bb_schema.specs.proving.Relation.{row_has, row_at, closed_by}
 use Rattle.bb_schema.specs.proving.Struck.{own_row, first_row, first_rows, members, struck_row, struck_rows, struck_table, struck_at}
 use Rattle.bb_schema.proofs.RelationLemmas.{IsTable, IsRow, ways, made_at, row_there, made_row_of, marked_row, made_table, closed_table, ways_begin, ways_join, ways_lead}
 use Rattle.bb_schema.proofs.HeirLemmas.{AreSound, has_below, below_has, leads_within, heirs_first, heirs_closed, heirs_least, heirs_of_heir}
-use Rattle.bb_schema.proofs.StrikeLemmas.{found, passes, struck_by, struck_as, strikes_related, strikes_outside, strikes_no_class}
+use Rattle.bb_schema.proofs.StrikeLemmas.{any_is_found, passes, struck_by, struck_as, strikes_related, strikes_outside, strikes_no_class}
 
-both : (a b : Bool) → a ≡ true → b ≡ true → (a && b) ≡ true
-both true b e f = f
-both false b e f = absurd cc
+and_both : (a b : Bool) → a ≡ true → b ≡ true → (a && b) ≡ true
+and_both true b e f = f
+and_both false b e f = absurd cc
 
 either : (a b : Bool) → (a || b) ≡ true → (a ≡ true) ⊎ (b ≡ true)
 either true b h = inl refl
@@ -78,13 +78,13 @@ module _ (classes : List Class) (slots : List Slot) (sound : AreSound classes sl
   heir_member d h lt there =
       let way = heir_way d h lt there in
       has_filter (row_has (row_at closed d)) (range_with_len 0 count) h
-      ∙ both (row_has (row_at closed d) h) (has (range_with_len 0 count) h) (closed_is.tell d h lt way.within ∙ way.way) (has_below count h way.within)
+      ∙ and_both (row_has (row_at closed d) h) (has (range_with_len 0 count) h) (closed_is.tell d h lt way.within ∙ way.way) (has_below count h way.within)
 
-  told : (d c : ℕ) → d < count → strikes_in classes slots d c ≡ list_any (related_in classes c) (heirs_of d)
-  told d c lt =
+  strikes_is_any : (d c : ℕ) → d < count → strikes_in classes slots d c ≡ list_any (related_in classes c) (heirs_of d)
+  strikes_is_any d c lt =
       same_truth (strikes_in classes slots d c) (list_any (related_in classes c) (heirs_of d))
       (λ h. let f = struck_as classes slots sound d c h in passes (related_in classes c) (heirs_of d) f.one (heir_member d f.one lt f.there) f.passes)
-      (λ h. let f = found (related_in classes c) (heirs_of d) h in struck_by classes slots sound d f.one c (member_heir d f.one lt f.there) f.passes)
+      (λ h. let f = any_is_found (related_in classes c) (heirs_of d) h in struck_by classes slots sound d f.one c (member_heir d f.one lt f.there) f.passes)
 
   abbrev rows : List (List Bool)
   rows = struck_rows classes closed
@@ -97,7 +97,7 @@ module _ (classes : List Class) (slots : List Slot) (sound : AreSound classes sl
   inside : (d c : ℕ) → d < count → c < count → struck_at (Some rows) d c ≡ Some (strikes_in classes slots d c)
   inside d c lt lt_c =
       ap (option_and_then (λ (row : List Bool). slice_get row c)) (row_is d lt)
-      ∙ (made_at (λ k. list_any (related_in classes k) (heirs_of d)) count c lt_c ∙ ap (λ (b : Bool). Some b) (sym (told d c lt)))
+      ∙ (made_at (λ k. list_any (related_in classes k) (heirs_of d)) count c lt_c ∙ ap (λ (b : Bool). Some b) (sym (strikes_is_any d c lt)))
 
   no_row : (d c : ℕ) → count ≤ d → struck_at (Some rows) d c ≡ None
   no_row d c le =

@@ -72,13 +72,13 @@ same_by : (n : ℕ) (b : Bool) → (n == n) ≡ b → b ≡ true
 same_by n true h = refl
 same_by n false h = absurd (eqb-false n n h refl)
 
-same : (n : ℕ) → (n == n) ≡ true
-same n = same_by n (n == n) refl
+equals_itself : (n : ℕ) → (n == n) ≡ true
+equals_itself n = same_by n (n == n) refl
 
 label_held : (sets : List LabelSet) (set label : ℕ) → is_label (label_counts sets) set label ≡ true
     → IsHeld sets (values.Label set label)
 unfolding value_fits
-label_held sets set label there = rw (same set) there
+label_held sets set label there = rw (equals_itself set) there
 
 label_value_held : (sets : List LabelSet) (of : List ℕ) (given : Option (List ℕ)) (v : Value)
     → label_value sets of given ≡ Ok v → IsHeld sets v
@@ -192,10 +192,10 @@ parent_lt : (classes : List Class) (k j : Class) (p : ℕ) → IfSome k.parent (
 parent_lt classes k j p within same h = subst (λ (o : Option ℕ). IfSome o (λ q. q < length classes)) (ap (λ (i : Class). i.parent) same ∙ h) within
 
 -- what the walk over the slots of a class begins with
-begins : (sets : List LabelSet) (s : SchemaDraft) (parent : Option ℕ) → ClassesFit sets s
+grows_at_first : (sets : List LabelSet) (s : SchemaDraft) (parent : Option ℕ) → ClassesFit sets s
     → IfSome parent (λ p. p < length s.classes) → GrowsWell sets (length s.classes) (length s.slots)
     (inherited_slots s.classes parent) (record { slots = s.slots; class_slots = inherited_slots s.classes parent })
-begins sets s None fit within = record {
+grows_at_first sets s None fit within = record {
   longer = omega arith;
   few_slots = fit.few_slots;
   few = omega arith;
@@ -205,7 +205,7 @@ begins sets s None fit within = record {
   front = ([], refl);
   drafts = All-weaker (IsDraft sets (length s.classes)) (IsDraft sets (suc (length s.classes))) (λ d h. record { name = h.name; owner = omega (arith, h.owner); default = h.default }) s.slots fit.slots;
 }
-begins sets s (Some p) fit within =
+grows_at_first sets s (Some p) fit within =
     let k = there_is s.classes p within in
     let is : slots_in s.classes p ≡ k.0.slots = ap (λ (o : Option Class). option_map_or (λ j. j.slots) o []) k.1 in
     let class : IsClass (length s.slots) k.0 = All-at (IsClass (length s.slots)) s.classes p k.0 k.1 fit.classes in
@@ -263,7 +263,7 @@ class_keeps sets all s t e sound fit made =
     let own = bind_fold (inside lists.Links) (link_after all e.name (length s.classes)) 0 ordinary.0 e.links _ t ordinary.2 in
     let within = parent_within s.classes e.parent parent.0 parent.1 in
     let P : ClassDraft → Type 0 = GrowsWell sets (length s.classes) (length s.slots) (inherited_slots s.classes parent.0) in
-    let one : P ordinary.0 = walk_keeps P (λ (d : SlotDeclaration). IsSound d.default) (slot_after sets (length s.classes)) (λ g h d. slot_keeps sets (length s.classes) (length s.slots) (inherited_slots s.classes parent.0) g h d) start ordinary.0 e.slots sound (begins sets s parent.0 fit within) ordinary.1 in
+    let one : P ordinary.0 = walk_keeps P (λ (d : SlotDeclaration). IsSound d.default) (slot_after sets (length s.classes)) (λ g h d. slot_keeps sets (length s.classes) (length s.slots) (inherited_slots s.classes parent.0) g h d) start ordinary.0 e.slots sound (grows_at_first sets s parent.0 fit within) ordinary.1 in
     let two : P own.0 = try_fold_keeps P (link_after all e.name (length s.classes)) (λ g h d. link_keeps sets all e.name (length s.classes) (length s.slots) (inherited_slots s.classes parent.0) g h d) ordinary.0 own.0 e.links one own.1 in
     subst (ClassesFit sets) (same_ok _ t own.2) (joins sets s (record { name = e.name; parent = parent.0; slots = own.0.class_slots }) own.0 fit (rw (map-last (λ (k : Class). k.name) s.classes (record { name = e.name; parent = parent.0; slots = own.0.class_slots })) (one_more_name CLASS_LIMIT (map (λ (k : Class). k.name) s.classes) e.name fit.class_names named.0 fresh.0 (rw (length-map s.classes (λ (k : Class). k.name)) room.0))) (leb-false CLASS_LIMIT (length s.classes) room.0) within refl two)
 

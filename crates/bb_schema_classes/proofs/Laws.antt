@@ -6,4 +6,4 @@ pub use Rattle.bb_schema_classes.proofs.FitLemmas.{All-at}
 pub use Rattle.bb_schema_classes.proofs.IndexLemmas.{any_spot}
 pub use Rattle.bb_schema_classes.proofs.NamingLemmas.{not_false, distinct_nil, no_names, one_more_name}
 pub use Rattle.bb_schema_classes.proofs.SameLemmas.{label_sets_decide, classes_decide, option_decides, link_decides, value_decides}
-pub use Rattle.bb_schema_classes.proofs.SpanLemmas.{alone, none_above, told}
+pub use Rattle.bb_schema_classes.proofs.SpanLemmas.{alone, none_above, descends_told}

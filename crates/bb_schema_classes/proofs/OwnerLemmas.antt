@@ -9,7 +9,7 @@ use Rattle.std.proofs.lemmas.List.Elements.{All-nil, All-head, All-tail}
 use Rattle.bb_basis.proofs.BoolLemmas.{or_false}
 use Rattle.bb_basis.specs.Names.{is_name}
 use Rattle.bb_basis.specs.Results.{ok_or, try_fold}
-use Rattle.bb_basis.proofs.NumberLemmas.{differs, turned}
+use Rattle.bb_basis.proofs.NumberLemmas.{differs, differ_swapped}
 use Rattle.bb_basis.proofs.AppendLemmas.{some_within, there_is, snoc_cases, snoc_old, snoc_new}
 use Rattle.bb_basis.proofs.ResultLemmas.{bind_ok, guard_ok, same_ok, try_fold_keeps}
 use Rattle.bb_schema_form.specs.Document.{SlotDeclaration, LinkDeclaration, ClassDeclaration}
@@ -45,12 +45,12 @@ by_cmp : (n l : ℕ) → n < l + 1 → (b : Bool) → nat_lt n l ≡ b → (n ==
 by_cmp n l lt true h other = ltb-true n l h
 by_cmp n l lt false h other = absurd (eqb-false n l other (let le = ltb-false n l h in omega (arith, le, lt)))
 
-below : (n l : ℕ) → n < l + 1 → (n == l) ≡ false → n < l
-below n l lt other = by_cmp n l lt (nat_lt n l) refl other
+below_last : (n l : ℕ) → n < l + 1 → (n == l) ≡ false → n < l
+below_last n l lt other = by_cmp n l lt (nat_lt n l) refl other
 
 pub last_or : (c l : ℕ) (b : Bool) → (c == l) ≡ b → c < l + 1 → (c < l) ⊎ (c ≡ l)
 last_or c l true same lt = inr (eqb-true c l same)
-last_or c l false other lt = inl (below c l lt other)
+last_or c l false other lt = inl (below_last c l lt other)
 
 above_false : (a n : ℕ) (b : Bool) → nat_le a n ≡ b → n < a → b ≡ false
 above_false a n true h lt = absurd (omega (arith, leb-true a n h, lt))
@@ -116,7 +116,7 @@ among_by : (s : SchemaDraft) (base : List ℕ) (g : ClassDraft) (n : ℕ) → le
 among_by s base g n longer lt before true same =
     let le : length s.slots ≤ n = omega (arith, longer, eqb-true (length g.slots) n same) in
     or_right (is_among g.class_slots n) true refl ∙ sym (or_right (is_among base n) (nat_le (length s.slots) n) (le-leb (length s.slots) n le))
-among_by s base g n longer lt before false other = or_false (is_among g.class_slots n) ∙ before (below n (length g.slots) lt (turned n (length g.slots) other))
+among_by s base g n longer lt before false other = or_false (is_among g.class_slots n) ∙ before (below_last n (length g.slots) lt (differ_swapped n (length g.slots) other))
 
 owns_more : (s : SchemaDraft) (base : List ℕ) (g : ClassDraft) (d : Draft) → OwnsNew s base g
     → d.owner ≡ length s.classes → OwnsNew s base (with_slot g d)

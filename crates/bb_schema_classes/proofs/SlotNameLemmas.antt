@@ -36,10 +36,10 @@ found_by : (p : ℕ → Bool) (x : ℕ) (xs : List ℕ) (n : ℕ) (b : Bool) →
 found_by p x xs n true same h passes later = rw (ap p (eqb-true x n same) ∙ passes) refl
 found_by p x xs n false other h passes later = or_right (p x) (list_any p xs) (later h)
 
-found : (p : ℕ → Bool) (xs : List ℕ) (n : ℕ) → is_among xs n ≡ true → p n ≡ true → list_any p xs ≡ true
+any_of_among : (p : ℕ → Bool) (xs : List ℕ) (n : ℕ) → is_among xs n ≡ true → p n ≡ true → list_any p xs ≡ true
 unfolding is_among
-found p [] n h passes = absurd cc
-found p (x ∷ xs) n h passes = found_by p x xs n (x == n) refl h passes (λ later. found p xs n later passes)
+any_of_among p [] n h passes = absurd cc
+any_of_among p (x ∷ xs) n h passes = found_by p x xs n (x == n) refl h passes (λ later. any_of_among p xs n later passes)
 
 named : (slots : List Draft) (n : ℕ) (d : Draft) (name : List ℕ) → slice_get slots n ≡ Some d → d.name ≡ name
     → draft_has_name slots name n ≡ true
@@ -49,7 +49,7 @@ named slots n d name at is = rw at ((bytes_eq-Decides name d.name).1 (sym is))
 -- a name that a class has is not new
 not_new : (g : ClassDraft) (n : ℕ) (d : Draft) (name : List ℕ) → has_slot_named g name ≡ false
     → is_among g.class_slots n ≡ true → slice_get g.slots n ≡ Some d → d.name ≡ name → ⊥
-not_new g n d name fresh among at is = let h : has_slot_named g name ≡ true = found (draft_has_name g.slots name) g.class_slots n among (named g.slots n d name at is) in let e : false ≡ true = sym fresh ∙ h in cc
+not_new g n d name fresh among at is = let h : has_slot_named g name ≡ true = any_of_among (draft_has_name g.slots name) g.class_slots n among (named g.slots n d name at is) in let e : false ≡ true = sym fresh ∙ h in cc
 
 old_or_new : (xs : List ℕ) (l n : ℕ) → is_among (xs ++ l ∷ []) n ≡ true → (is_among xs n ≡ true) ⊎ (l ≡ n)
 old_or_new xs l n h = by_last (is_among xs n) refl (l == n) refl (sym (among_more xs l n) ∙ h) where

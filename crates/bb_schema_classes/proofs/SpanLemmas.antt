@@ -66,9 +66,9 @@ low_moved at n m (inl x) = let e = x.1 in omega (arith, e)
 low_moved at n m (inr x) = let e = x.1 in omega (arith, e)
 
 -- what a new number comes after, and before
-behind : (at n m : ℕ) → Moved at n m → (n < at → m ≤ at) × (m ≤ at → n < at)
-behind at n m (inl x) = let e = x.1 in let lt = x.0 in (λ h. omega (arith, e, h), λ h. lt)
-behind at n m (inr x) = let e = x.1 in let le = x.0 in (λ h. absurd (omega (arith, h, le)), λ h. absurd (omega (arith, e, h, le)))
+moved_side : (at n m : ℕ) → Moved at n m → (n < at → m ≤ at) × (m ≤ at → n < at)
+moved_side at n m (inl x) = let e = x.1 in let lt = x.0 in (λ h. omega (arith, e, h), λ h. lt)
+moved_side at n m (inr x) = let e = x.1 in let le = x.0 in (λ h. absurd (omega (arith, h, le)), λ h. absurd (omega (arith, e, h, le)))
 
 before : (at n m : ℕ) → Moved at n m → (at ≤ n → at < m) × (at < m → at ≤ n)
 before at n m (inl x) = let e = x.1 in let lt = x.0 in (λ h. absurd (omega (arith, h, lt)), λ h. absurd (omega (arith, e, h, lt)))
@@ -89,17 +89,17 @@ module _ (at : ℕ) (k l : Span) where
   comes_in : at ≡ k.first + 1 → LiesIn k l → LiesIn (new_span at) (moved_span at l)
   comes_in is h =
       let low = h.0 in let high = h.1 in
-      ((behind at l.first (moved at l.first) (moved_is at l.first)).0 (omega (arith, is, low)), (before at l.end (moved at l.end) (moved_is at l.end)).0 (omega (arith, is, high)))
+      ((moved_side at l.first (moved at l.first) (moved_is at l.first)).0 (omega (arith, is, low)), (before at l.end (moved at l.end) (moved_is at l.end)).0 (omega (arith, is, high)))
 
   came_in : at ≡ k.first + 1 → LiesIn (new_span at) (moved_span at l) → LiesIn k l
   came_in is h =
-      let low = (behind at l.first (moved at l.first) (moved_is at l.first)).1 h.0 in
+      let low = (moved_side at l.first (moved at l.first) (moved_is at l.first)).1 h.0 in
       let high = (before at l.end (moved at l.end) (moved_is at l.end)).1 h.1 in
       (omega (arith, is, low), omega (arith, is, high))
 
   -- a span that comes first of all lies in none, and nothing lies in it
   first_in_none : at ≡ 0 → LiesIn (new_span at) (moved_span at l) → ⊥
-  first_in_none is h = let low = (behind at l.first (moved at l.first) (moved_is at l.first)).1 h.0 in omega (arith, is, low)
+  first_in_none is h = let low = (moved_side at l.first (moved at l.first) (moved_is at l.first)).1 h.0 in omega (arith, is, low)
 
   none_in : LiesIn (moved_span at k) (new_span at) → ⊥
   none_in h = never_at at k.first (moved at k.first) (moved_is at k.first) h.0 h.1
@@ -146,16 +146,16 @@ along : (j k m l : Span) → j ≡ k → m ≡ l → LiesIn j m → LiesIn k l
 along j k m l one two h = subst (LiesIn k) two (subst (λ (x : Span). LiesIn x m) one h)
 
 module _ (classes : List Class) (spans : List Span) (n at : ℕ) (earlier : ParentsAreEarlier classes) (walk : IsWalk classes n spans) (comes : ComesIn classes spans n at) where
-  below : (d : ℕ) (t : Span) → slice_get spans d ≡ Some t → d < n
-  below d t is = let count = walk.count in let lt = slice_get_within spans d t is in omega (arith, count, lt)
+  span_below : (d : ℕ) (t : Span) → slice_get spans d ≡ Some t → d < n
+  span_below d t is = let count = walk.count in let lt = slice_get_within spans d t is in omega (arith, count, lt)
 
   top_to : (d : ℕ) (t : Span) → slice_get spans d ≡ Some t → parent_of classes n ≡ None → (n ≡ d) ⊎ ((q : ℕ) × (parent_of classes n ≡ Some q) × Descends classes q d) → ⊥
-  top_to d t is none (inl same) = let lt = below d t is in omega (arith, lt, same)
+  top_to d t is none (inl same) = let lt = span_below d t is in omega (arith, lt, same)
   top_to d t is none (inr above) = absurd (let both = sym none ∙ above.1 in cc)
 
   under_to : (d : ℕ) (t : Span) (p : ℕ) (s : Span) → slice_get spans d ≡ Some t → parent_of classes n ≡ Some p → slice_get spans p ≡ Some s → at ≡ s.first + 1
       → (n ≡ d) ⊎ ((q : ℕ) × (parent_of classes n ≡ Some q) × Descends classes q d) → LiesIn (new_span at) (moved_span at t)
-  under_to d t p s is parent there place (inl same) = absurd (let lt = below d t is in omega (arith, lt, same))
+  under_to d t p s is parent there place (inl same) = absurd (let lt = span_below d t is in omega (arith, lt, same))
   under_to d t p s is parent there place (inr above) =
       let both = sym above.1 ∙ parent in
       let own : above.0 ≡ p = cc in
@@ -171,7 +171,7 @@ module _ (classes : List Class) (spans : List Span) (n at : ℕ) (earlier : Pare
 
   too_late : (c d : ℕ) (s : Span) → slice_get spans c ≡ Some s → d ≡ length spans → Descends classes c d → ⊥
   too_late c d s is last h =
-      let low = below c s is in let count = walk.count in let le = not_later classes earlier c d h in omega (arith, low, count, le, last)
+      let low = span_below c s is in let count = walk.count in let le = not_later classes earlier c d h in omega (arith, low, count, le, last)
 
   tells : (c d : ℕ) (k l : Span) → OldOrNew spans at c k → OldOrNew spans at d l → Descends classes c d ↔ LiesIn k l
   tells c d k l (inl a) (inl b) =
@@ -269,5 +269,5 @@ none_above classes spans c d k earlier here none h =
     absurd (let both = sym none ∙ there.1 in cc)
 
 -- a truth value that says whether one class descends from another is what the climb gives
-pub told : (classes : List Class) (c d : ℕ) (r : Bool) → ParentsAreEarlier classes → IsTrue r ↔ Descends classes c d → r ≡ descends_in classes c d
-told classes c d r earlier is = same_from_decides r (descends_in classes c d) is (descends_decides classes earlier c d (descends_in classes c d) refl)
+pub descends_told : (classes : List Class) (c d : ℕ) (r : Bool) → ParentsAreEarlier classes → IsTrue r ↔ Descends classes c d → r ≡ descends_in classes c d
+descends_told classes c d r earlier is = same_from_decides r (descends_in classes c d) is (descends_decides classes earlier c d (descends_in classes c d) refl)

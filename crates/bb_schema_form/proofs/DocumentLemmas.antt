@@ -96,8 +96,8 @@ link_list = entries_of lists.Links first_link_of
 abbrev space_list : json.Json → Result (List MemberDeclaration) DocumentFault
 space_list = entries_of lists.Spaces member_of
 
-one_more : (k : List ℕ) (j : json.Json) (ms : json.Members) (made all : Members) (d : Data) → of_json j ≡ Some d → of_members ms (put k d made) ≡ Some all → of_members (json.member k j ms) made ≡ Some all
-one_more k j ms made all d read others = rw read others
+members_with_one : (k : List ℕ) (j : json.Json) (ms : json.Members) (made all : Members) (d : Data) → of_json j ≡ Some d → of_members ms (put k d made) ≡ Some all → of_members (json.member k j ms) made ≡ Some all
+members_with_one k j ms made all d read others = rw read others
 
 all_read : (ms : List Member) (made : Members) (us us' : List UnitDeclaration) (ls ls' : List FirstLinkDeclaration) (ss ss' : List MemberDeclaration) → list_all (λ m. among m.0.now) ms ≡ true
     → listed (codes "units") unit_list us (borrowed.members_view ms) ≡ Ok us' → listed (codes "links") link_list ls (borrowed.members_view ms) ≡ Ok ls' → listed (codes "spaces") space_list ss (borrowed.members_view ms) ≡ Ok ss'
@@ -120,7 +120,7 @@ all_read (m ∷ ms) made us us' ls ls' ss ss' keys u l s reads =
       keys_put among k d.0 made both.0 reads.3,
     ) in
     let rest = all_read ms (put k d.0 made) u1.0 us' l1.0 ls' s1.0 ss' both.1 u1.2 l1.2 s1.2 now in
-    (rest.0, one_more k j (borrowed.members_view ms) made rest.0 d.0 d.1 rest.1, rest.2)
+    (rest.0, members_with_one k j (borrowed.members_view ms) made rest.0 d.0 d.1 rest.1, rest.2)
 
 pub document_made : (ms : Vec Member Global) (items : List Member) (document : UnitsDocument) → items ≡ ms.items → list_all (λ m. among m.0.now) items ≡ true
     → listed (codes "units") unit_list [] (borrowed.members_view items) ≡ Ok (units_declaration document).units

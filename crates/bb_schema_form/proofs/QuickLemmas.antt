@@ -14,7 +14,7 @@ use Rattle.serde_json.specs.Read.{of_json, of_items, of_members}
 use Rattle.serde_json.specs.View.{view, items_view, items_of, members_view}
 use Rattle.serde_json.specs.declared.value.Value.{Value, Array}
 use Rattle.serde_json.proofs.Views.{view-Array, members_view-insert_entry}
-use Rattle.bb_basis.proofs.IntoMapLemmas.{next_one, none_left}
+use Rattle.bb_basis.proofs.IntoMapLemmas.{next_one, length_drop_all}
 use Rattle.bb_basis.specs.Results.{ok_or, try_map_at}
 use Rattle.bb_basis.proofs.ResultLemmas.{bind_ok, ok_or_ok}
 use Rattle.bb_schema_form.specs.declared.fault.DocumentFault.{DocumentFault}
@@ -106,6 +106,6 @@ pub listed_end : {X : Type 0} (key : List ℕ) (gives : json.Json → Result X D
     → listed key gives found (borrowed.members_view (drop i ms)) ≡ all → all ≡ Ok found
 unfolding listed
 listed_end key gives found ms i all le so_far =
-    let none : drop i ms ≡ [] = nil_from_length (drop i ms) (none_left ms i le) in
+    let none : drop i ms ≡ [] = nil_from_length (drop i ms) (length_drop_all ms i le) in
     let over : listed key gives found (borrowed.members_view (drop i ms)) ≡ Ok found = rw none in
     sym so_far ∙ over

@@ -5,8 +5,8 @@ use Rattle.bb_schema.specs.Schema.{Schema}
 use Rattle.bb_code.specs.Code.{Code}
 use Rattle.bb_verify.specs.Accepted.{Checked}
 use Rattle.bb_bundle.specs.declared.draft.SourceDraft.{SourceDraft}
-use Rattle.bb_run.specs.Classes.{Classes}
-use Rattle.bb_run.specs.MadeSource.{classes_of}
+use Rattle.bb_rules.specs.declared.resolve.Classes.{Classes}
+use Rattle.bb_rules.specs.Source.{classes_of}
 use Rattle.bb_shell.specs.declared.accepting.CodeFault.{CodeFault}
 use Rattle.bb_shell.specs.declared.accepting.CodeFault.TheVariants as faults
 use Rattle.bb_refusal.specs.declared.input_fault.InputFault.{InputFault}

@@ -6,10 +6,10 @@ use Rattle.std.specs.Str.{bytes_eq}
 use Rattle.std.proofs.lemmas.List.{append-nil}
 use Rattle.bb_basis.specs.Results.{map_err, try_fold}
 use Rattle.bb_basis.proofs.ResultLemmas.{bind_ok, guard_ok, same_ok}
-use Rattle.bb_verify.specs.VerifyFault.{VerifyFault}
+use Rattle.bb_code.specs.declared.flaw.VerifyFault.{VerifyFault}
 use Rattle.bb_verify.specs.PartType.{Part}
-use Rattle.bb_run.specs.RuleFault.TheVariants as rules
-use Rattle.bb_run.specs.Source.{Source}
+use Rattle.bb_rules.specs.declared.fault.RuleFault.TheVariants as rules
+use Rattle.bb_rules.specs.Parts.{Source}
 use Rattle.bb_run.specs.Limits.{SOURCE_LIMIT}
 use Rattle.bb_refusal.specs.declared.input_fault.InputFault.TheVariants as inputs
 use Rattle.bb_shell.specs.declared.fitting.Unfit.{Unfit}
@@ -18,8 +18,8 @@ use Rattle.bb_shell.specs.Fitting.{fitted, lacks_native, names_of, source_after}
 use Rattle.bb_shell.specs.Sources.{in_input}
 
 module _ (natives : List (List ℕ)) where
-  one_more : (before : List Source) (x : Source) (after : List Source) → source_after natives before x ≡ Ok after → before ++ x ∷ [] ≡ after
-  one_more before x after h =
+  fitted_with_one : (before : List Source) (x : Source) (after : List Source) → source_after natives before x ≡ Ok after → before ++ x ∷ [] ≡ after
+  fitted_with_one before x after h =
       let count = length before in
       let whole : Result (List Source) Unfit = Ok (before ++ x ∷ []) in
       let native : Result (List Source) Unfit = if lacks_native natives x then Err (unfits.Source x.name (rules.Native count)) else whole in
@@ -34,7 +34,7 @@ module _ (natives : List (List ℕ)) where
   all_same before [] after h = append-nil before ∙ same_ok before after h
   all_same before (x ∷ xs) after h =
       let one = bind_ok (source_after natives before x) (λ t. try_fold (source_after natives) t xs) after h in
-      sym (append_assoc before (x ∷ []) xs) ∙ (ap (λ l. l ++ xs) (one_more before x one.0 one.1) ∙ all_same one.0 xs after one.2)
+      sym (append_assoc before (x ∷ []) xs) ∙ (ap (λ l. l ++ xs) (fitted_with_one before x one.0 one.1) ∙ all_same one.0 xs after one.2)
 
   pub fitted_same : (xs after : List Source) → fitted natives xs ≡ Ok after → xs ≡ after
   fitted_same xs after h = all_same [] xs after h

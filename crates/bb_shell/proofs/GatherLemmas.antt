@@ -5,7 +5,7 @@ use Rattle.bb_schema.specs.Schema.{Schema}
 use Rattle.bb_verify.specs.Accepted.{Checked}
 use Rattle.bb_code.specs.Code.{Code}
 use Rattle.bb_bundle.specs.declared.draft.SourceDraft.{SourceDraft}
-use Rattle.bb_run.specs.Source.{Source}
+use Rattle.bb_rules.specs.Parts.{Source}
 use Rattle.bb_shell.specs.declared.fitting.Unfit.{Unfit}
 use Rattle.bb_refusal.specs.declared.input_fault.InputFault.{InputFault}
 use Rattle.bb_refusal.specs.declared.input_fault.InputFault.TheVariants.{Memory}
@@ -41,14 +41,14 @@ module _ (natives : List (List ℕ)) where
   one_more_by s fit drafts (Ok source) = resolves s fit source (try_map (resolved_source s) drafts)
   one_more_by s fit drafts (Err fault) = refl
 
-  one_more : (s : Schema) (g : Gathering) (draft : SourceDraft Checked) (drafts : List (SourceDraft Checked)) → by_steps s (with_draft natives s g draft) drafts ≡ by_steps s g (draft ∷ drafts)
+  steps_with_one : (s : Schema) (g : Gathering) (draft : SourceDraft Checked) (drafts : List (SourceDraft Checked)) → by_steps s (with_draft natives s g draft) drafts ≡ by_steps s g (draft ∷ drafts)
   unfolding try_map by_steps
-  one_more s (Ok fit) draft drafts = one_more_by s fit drafts (resolved_source s draft)
-  one_more s (Err fault) draft drafts = refl
+  steps_with_one s (Ok fit) draft drafts = one_more_by s fit drafts (resolved_source s draft)
+  steps_with_one s (Err fault) draft drafts = refl
 
   -- the accepted code of one, and then the rest
   next_by : (s : Schema) (g : Gathering) (accepted : Result (SourceDraft Checked) InputFault) (rest : Gathering → Result (List Source) InputFault) (others : Result (List (SourceDraft Checked)) InputFault) → ((h : Gathering) → rest h ≡ (others >>= λ drafts. by_steps s h drafts)) → (accepted >>= λ draft. rest (with_draft natives s g draft)) ≡ ((accepted >>= λ first. others >>= λ drafts. Ok (first ∷ drafts)) >>= λ drafts. by_steps s g drafts)
-  next_by s g (Ok draft) rest (Ok drafts) is = is (with_draft natives s g draft) ∙ one_more s g draft drafts
+  next_by s g (Ok draft) rest (Ok drafts) is = is (with_draft natives s g draft) ∙ steps_with_one s g draft drafts
   next_by s g (Ok draft) rest (Err fault) is = is (with_draft natives s g draft)
   next_by s g (Err fault) rest others is = refl
 

@@ -16,10 +16,10 @@ use Rattle.bb_bundle.specs.declared.draft.ActDraft.TheVariants as acts
 use Rattle.bb_bundle.specs.declared.draft.Parts.{Parts}
 use Rattle.bb_bundle.specs.declared.draft.ReactionDraft.{ReactionDraft}
 use Rattle.bb_bundle.specs.declared.draft.SourceDraft.{SourceDraft}
-use Rattle.bb_run.specs.Classes.{Classes}
-use Rattle.bb_run.specs.MadeSource.{classes_of, obviate_part, retrigger_part, source_of}
-use Rattle.bb_run.specs.Law.{AreAccepted, IsAccepted, IsMade}
-use Rattle.bb_run.specs.Source.{Source}
+use Rattle.bb_rules.specs.declared.resolve.Classes.{Classes}
+use Rattle.bb_rules.specs.Source.{classes_of, obviate_part, retrigger_part, source_of}
+use Rattle.bb_rules.specs.Law.{AreAccepted, IsAccepted, IsMade}
+use Rattle.bb_rules.specs.Parts.{Source}
 use Rattle.bb_rules.proofs.Laws.{source_made_of}
 use Rattle.bb_shell.specs.declared.accepting.CodeFault.TheVariants as faults
 use Rattle.bb_refusal.specs.declared.input_fault.InputFault.TheVariants as inputs

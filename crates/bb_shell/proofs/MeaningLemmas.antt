@@ -8,7 +8,7 @@ use Rattle.bb_refusal.specs.declared.input_fault.InputFault.TheVariants as input
 use Rattle.bb_run.specs.Board.{Board, new_board}
 use Rattle.bb_run.specs.Load.{loaded}
 use Rattle.bb_shell.specs.Meaning.{Meaning, meaning}
-use Rattle.bb_run.specs.Source.{Source}
+use Rattle.bb_rules.specs.Parts.{Source}
 use Rattle.bb_shell.specs.Sources.{given}
 
 module _ (natives : List (List ℕ)) where
@@ -28,15 +28,15 @@ module _ (natives : List (List ℕ)) where
   stepped : {A : Type 0} (step : Result A InputFault) (f : A → Result Meaning InputFault) (total : Result Meaning InputFault) (x : A) → total ≡ (step >>= f) → step ≡ Ok x → total ≡ f x
   stepped step f total x is ok = is ∙ ap (λ r. r >>= f) ok
 
-  begins : (schema units texts bundle : List ℕ) (floor : ℤ) → meaning natives schema units texts bundle floor ≡ (map_err inputs.Schema (schema_of schema) >>= of_schema units texts bundle floor)
+  meaning_by_schema : (schema units texts bundle : List ℕ) (floor : ℤ) → meaning natives schema units texts bundle floor ≡ (map_err inputs.Schema (schema_of schema) >>= of_schema units texts bundle floor)
   unfolding meaning
-  begins schema units texts bundle floor = refl
+  meaning_by_schema schema units texts bundle floor = refl
 
   pub schema_fails : (schema units texts bundle : List ℕ) (floor : ℤ) (e : InputFault) → (e ≡ inputs.Memory) ⊎ (map_err inputs.Schema (schema_of schema) ≡ Err e) → (e ≡ inputs.Memory) ⊎ (meaning natives schema units texts bundle floor ≡ Err e)
-  schema_fails schema units texts bundle floor e failed = fails e (map_err inputs.Schema (schema_of schema)) (of_schema units texts bundle floor) (meaning natives schema units texts bundle floor) (begins schema units texts bundle floor) failed
+  schema_fails schema units texts bundle floor e failed = fails e (map_err inputs.Schema (schema_of schema)) (of_schema units texts bundle floor) (meaning natives schema units texts bundle floor) (meaning_by_schema schema units texts bundle floor) failed
 
   pub after_schema : (schema units texts bundle : List ℕ) (floor : ℤ) (s : Schema) → map_err inputs.Schema (schema_of schema) ≡ Ok s → meaning natives schema units texts bundle floor ≡ of_schema units texts bundle floor s
-  after_schema schema units texts bundle floor s ok = stepped (map_err inputs.Schema (schema_of schema)) (of_schema units texts bundle floor) (meaning natives schema units texts bundle floor) s (begins schema units texts bundle floor) ok
+  after_schema schema units texts bundle floor s ok = stepped (map_err inputs.Schema (schema_of schema)) (of_schema units texts bundle floor) (meaning natives schema units texts bundle floor) s (meaning_by_schema schema units texts bundle floor) ok
 
   pub units_fail : (schema units texts bundle : List ℕ) (floor : ℤ) (s : Schema) (e : InputFault) → map_err inputs.Schema (schema_of schema) ≡ Ok s → (e ≡ inputs.Memory) ⊎ (map_err inputs.Units (loaded (new_board s) units) ≡ Err e) → (e ≡ inputs.Memory) ⊎ (meaning natives schema units texts bundle floor ≡ Err e)
   units_fail schema units texts bundle floor s e ok failed = fails e (map_err inputs.Units (loaded (new_board s) units)) (of_loaded s texts bundle floor) (meaning natives schema units texts bundle floor) (after_schema schema units texts bundle floor s ok) failed

@@ -17,12 +17,12 @@ use Rattle.bb_run.specs.Native.{Native}
 use Rattle.bb_run.specs.Roster.{place_of, unclosed}
 use Rattle.bb_run.specs.Board.{Board, new_board, with_world}
 use Rattle.bb_run.specs.Causes.{LacksNative}
-use Rattle.bb_run.specs.Law.{IsMade}
+use Rattle.bb_rules.specs.Law.{IsMade}
 use Rattle.bb_run.specs.Limits.{SOURCE_LIMIT}
 use Rattle.bb_run.specs.Load.{load, loaded}
 use Rattle.bb_run.specs.Plan.{Plan}
-use Rattle.bb_run.specs.RuleFault.TheVariants as rules
-use Rattle.bb_run.specs.Source.{Source}
+use Rattle.bb_rules.specs.declared.fault.RuleFault.TheVariants as rules
+use Rattle.bb_rules.specs.Parts.{Source}
 use Rattle.bb_shell.specs.declared.fitting.Unfit.{Unfit}
 use Rattle.bb_shell.specs.declared.fitting.Unfit.TheVariants as unfits
 use Rattle.bb_refusal.specs.declared.input_fault.InputFault.TheVariants as inputs

@@ -11,8 +11,8 @@ use Rattle.bb_bundle.specs.declared.draft.ActDraft.TheVariants as acts
 use Rattle.bb_bundle.specs.declared.draft.Parts.{Parts}
 use Rattle.bb_bundle.specs.declared.draft.ReactionDraft.{ReactionDraft}
 use Rattle.bb_bundle.specs.declared.draft.SourceDraft.{SourceDraft}
-use Rattle.bb_run.specs.Classes.{Classes}
-use Rattle.bb_run.specs.MadeSource.{classes_of, obviate_part, retrigger_part}
+use Rattle.bb_rules.specs.declared.resolve.Classes.{Classes}
+use Rattle.bb_rules.specs.Source.{classes_of, obviate_part, retrigger_part}
 use Rattle.bb_shell.specs.declared.accepting.CodeFault.{CodeFault}
 use Rattle.bb_shell.specs.declared.accepting.CodeFault.TheVariants as faults
 use Rattle.bb_refusal.specs.declared.input_fault.InputFault.{InputFault}

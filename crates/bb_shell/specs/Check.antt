@@ -2,7 +2,7 @@
 use Rattle.std.specs.Prelude.{ℕ, List, Option, Result, IsOkAnd}
 use Rattle.bb_basis.specs.Results.{◌>>=◌, map_err}
 use Rattle.bb_schema.specs.Reading.{schema_of}
-use Rattle.bb_run.specs.Source.{Source}
+use Rattle.bb_rules.specs.Parts.{Source}
 use Rattle.bb_shell.specs.CheckText.{check_text}
 use Rattle.bb_shell.specs.Sources.{given}
 use Rattle.bb_shell.specs.Written.{Wrote}

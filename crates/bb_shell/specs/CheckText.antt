@@ -4,9 +4,9 @@ use Rattle.std.specs.Fmt.{decimal}
 use Rattle.std.specs.List.{flat_map}
 use Rattle.bb_verify.specs.Accepted.{Checked}
 use Rattle.bb_verify.specs.Budget.{budget}
-use Rattle.bb_run.specs.Act.{Act}
-use Rattle.bb_run.specs.Act.TheVariants as acts
-use Rattle.bb_run.specs.Source.{Source}
+use Rattle.bb_rules.specs.declared.source.Act.{Act}
+use Rattle.bb_rules.specs.declared.source.Act.TheVariants as acts
+use Rattle.bb_rules.specs.Parts.{Source}
 
 -- `NAME PART ops N budget B0 B1`: the number of ops of a code, its budget if it finds nothing, and its budget if it
 -- finds at most one unit

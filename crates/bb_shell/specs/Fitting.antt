@@ -5,11 +5,11 @@ use Rattle.std.specs.Str.{bytes_eq}
 use Rattle.bb_basis.specs.Results.{try_fold}
 use Rattle.bb_run.specs.Closing.{Closing}
 use Rattle.bb_run.specs.Native.{Native}
-use Rattle.bb_run.specs.Act.{Act}
-use Rattle.bb_run.specs.Act.TheVariants as acts
-use Rattle.bb_run.specs.RuleFault.{RuleFault}
-use Rattle.bb_run.specs.RuleFault.TheVariants as rules
-use Rattle.bb_run.specs.Source.{Source}
+use Rattle.bb_rules.specs.declared.source.Act.{Act}
+use Rattle.bb_rules.specs.declared.source.Act.TheVariants as acts
+use Rattle.bb_rules.specs.declared.fault.RuleFault.{RuleFault}
+use Rattle.bb_rules.specs.declared.fault.RuleFault.TheVariants as rules
+use Rattle.bb_rules.specs.Parts.{Source}
 use Rattle.bb_run.specs.Limits.{SOURCE_LIMIT}
 use Rattle.bb_shell.specs.declared.fitting.Unfit.{Unfit}
 use Rattle.bb_shell.specs.declared.fitting.Unfit.TheVariants as unfits

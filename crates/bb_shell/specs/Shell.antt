@@ -2,8 +2,8 @@
 use Rattle.std.specs.Prelude.{ℕ, ℤ, List, Result, Ok}
 use Rattle.bb_basis.specs.Results.{◌>>=◌, map_err}
 use Rattle.bb_run.specs.Board.{Board}
-use Rattle.bb_run.specs.RuleFault.{RuleFault}
-use Rattle.bb_run.specs.Source.{Source}
+use Rattle.bb_rules.specs.declared.fault.RuleFault.{RuleFault}
+use Rattle.bb_rules.specs.Parts.{Source}
 use Rattle.bb_shell.specs.Fitting.{fault_of, fitted}
 use Rattle.bb_shell.specs.Meaning.{Meaning}
 

@@ -9,8 +9,8 @@ use Rattle.bb_lang.specs.SourceText.{SourceText}
 use Rattle.bb_compile.specs.Compiled.{compiled}
 use Rattle.bb_bundle.specs.Bundle.{sources_of}
 use Rattle.bb_bundle.specs.declared.draft.SourceDraft.{SourceDraft}
-use Rattle.bb_run.specs.Source.{Source}
-use Rattle.bb_run.specs.MadeSource.{source_of}
+use Rattle.bb_rules.specs.Parts.{Source}
+use Rattle.bb_rules.specs.Source.{source_of}
 use Rattle.bb_refusal.specs.declared.input_fault.InputFault.{InputFault}
 use Rattle.bb_refusal.specs.declared.input_fault.InputFault.TheVariants.{Bundle, Compile, Lang, Memory, Rule}
 use Rattle.bb_shell.specs.Accepting.{accepted_source}

@@ -3,18 +3,17 @@
 ghost use Rattle.std.specs.Prelude.{◌≡◌, IfOk};
 ghost use Rattle.bb_basis.specs.Results.{Gives, map_err};
 ghost use Rattle.bb_shell.specs.declared.accepting.CodeFault.TheVariants.{Memory as OutOfMemory};
-ghost use Rattle.bb_shell.specs.Accepting.{accepted_act, accepted_code, accepted_draft, accepted_part};
-ghost use Rattle.bb_shell.specs.Accepting.{accepted_parts, accepted_reaction, accepted_source, in_source};
-ghost use Rattle.bb_run.specs.MadeSource.{classes_of};
+ghost use Rattle.bb_shell.specs.Accepting.{accepted_act, accepted_code, accepted_draft, accepted_part, accepted_parts, accepted_reaction, accepted_source, in_source};
+ghost use Rattle.bb_rules.specs.Source.{classes_of};
 
 use bb_basis::Text;
 use bb_bundle::{ActDraft, Parts, ReactionDraft, SourceDraft};
-use bb_code::Code;
+use bb_code::{Code, Flaw, VerifyFault};
 use bb_exec_lower::Lowered;
 use bb_refusal::InputFault;
-use bb_run::Classes;
+use bb_rules::Classes;
 use bb_schema::Schema;
-use bb_verify::{Flaw, Part, VerifyFault, verify};
+use bb_verify::{Part, verify};
 use std::alloc::Global;
 
 /// Why a source's code is not accepted.

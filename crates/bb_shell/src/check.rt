@@ -14,7 +14,8 @@ use crate::given::given;
 use crate::texts::read_schema;
 use crate::written::{Done, write};
 use bb_refusal::InputFault;
-use bb_run::{Closing, NativeSource, Out, Roster, Source};
+use bb_rules::Source;
+use bb_run::{Closing, NativeSource, Out, Roster};
 use bb_schema::Schema;
 use std::alloc::Global;
 

@@ -3,8 +3,7 @@
 ghost use Rattle.std.specs.Prelude.{◌≡◌, ◌++◌, IfOk, OnOk, option_map, string_bytes};
 ghost use Rattle.bb_shell.specs.CheckText.{act_text, check_text, part_line, part_text, source_text};
 
-use bb_rules::{Question, Reaction};
-use bb_run::{Act, Source};
+use bb_rules::{Act, Question, Reaction, Source};
 use bb_verify::Checked;
 use std::alloc::{AllocError, Global};
 use std::fmt::Write;

@@ -12,7 +12,8 @@ ghost use Rattle.bb_shell.specs.Fitting.{fitted, has_native, is_native, lacks_na
 ghost use Rattle.bb_shell.specs.Fitting.{source_after};
 
 use bb_basis::{Names, Text};
-use bb_run::{Act, Closing, RuleFault, SOURCE_LIMIT, Source};
+use bb_rules::{Act, RuleFault, Source};
+use bb_run::{Closing, SOURCE_LIMIT};
 use std::alloc::{AllocError, Global};
 use std::marker::Model;
 

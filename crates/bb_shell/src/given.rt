@@ -11,7 +11,8 @@ use crate::compiled::compiled_text;
 use crate::sources::sources_for;
 use bb_bundle::{BundleFault, SourceCode, unbundle};
 use bb_refusal::InputFault;
-use bb_run::{Closing, SOURCE_LIMIT, Source};
+use bb_rules::Source;
+use bb_run::{Closing, SOURCE_LIMIT};
 use bb_schema::Schema;
 use std::alloc::Global;
 

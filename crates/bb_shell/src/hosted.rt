@@ -2,7 +2,7 @@
 
 ghost use Rattle.std.specs.Prelude.{◌≡◌, ◌++◌, true, false, map, All, None, IfOk, OnOk};
 ghost use Rattle.bb_basis.specs.Results.{Gives};
-ghost use Rattle.bb_run.specs.Law.{IsMade};
+ghost use Rattle.bb_rules.specs.Law.{IsMade};
 ghost use Rattle.bb_run.specs.Roster.{all_open};
 ghost use Rattle.bb_shell.specs.Fitting.{names_in, native_names};
 ghost use Rattle.bb_shell.specs.Meaning.{meaning};

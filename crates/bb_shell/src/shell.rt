@@ -5,7 +5,7 @@ ghost use Rattle.std.specs.Io.KnownBytes.{Appends};
 ghost use Rattle.bb_basis.specs.Results.{Gives};
 ghost use Rattle.bb_run.specs.Emitting.{Writes};
 ghost use Rattle.bb_run.specs.Finish.{WritesFront, end_of, is_write};
-ghost use Rattle.bb_run.specs.Law.{IsMade};
+ghost use Rattle.bb_rules.specs.Law.{IsMade};
 ghost use Rattle.bb_run.specs.Page.{stopped_by_write};
 ghost use Rattle.bb_run.specs.Roster.{all_open};
 ghost use Rattle.bb_run.specs.Run.{run};
@@ -18,10 +18,8 @@ ghost use Rattle.bb_shell.specs.Shell.{shell_of};
 use crate::fitting::{Unfit, fit_all};
 use crate::texts::{Texts, read_input};
 use bb_refusal::InputFault;
-use bb_run::{
-    Board, Closing, Finish, Halt, NativeSource, Out, Plan, Roster, RuleFault, Source, Start,
-    run_to_end,
-};
+use bb_rules::{RuleFault, Source};
+use bb_run::{Board, Closing, Finish, Halt, NativeSource, Out, Plan, Roster, Start, run_to_end};
 use std::alloc::Global;
 
 /// A blackboard, the sources that run on it, in order, the natives handed in, and the minimum rating that can be chosen

@@ -12,7 +12,8 @@ use bb_basis::Text;
 use bb_bundle::{SourceCode, SourceDraft};
 use bb_exec_lower::Lowered;
 use bb_refusal::InputFault;
-use bb_run::{Closing, RuleFault, SOURCE_LIMIT, Source};
+use bb_rules::{RuleFault, Source};
+use bb_run::{Closing, SOURCE_LIMIT};
 use bb_schema::Schema;
 use std::alloc::{AllocError, Global};
 

@@ -6,7 +6,7 @@ ghost use Rattle.bb_basis.specs.Results.{Gives, map_err};
 ghost use Rattle.bb_schema.specs.Reading.{schema_of};
 ghost use Rattle.bb_run.specs.Board.{is_fresh, new_board};
 ghost use Rattle.bb_run.specs.Load.{loaded};
-ghost use Rattle.bb_run.specs.Law.{IsMade};
+ghost use Rattle.bb_rules.specs.Law.{IsMade};
 ghost use Rattle.bb_run.specs.Roster.{all_open};
 ghost use Rattle.bb_run.specs.Finish.{WritesFront, end_of, is_write};
 ghost use Rattle.bb_shell.specs.Fitting.{names_in, native_names};
@@ -18,8 +18,9 @@ ghost use Rattle.bb_run.specs.Unstuck.{IsUnstuck};
 use crate::given::given;
 use crate::shell::Shell;
 use bb_refusal::InputFault;
-use bb_run::{Board, Closing, Finish, NativeSource, Out, Plan, SharedSchema, UnitsFault};
-use bb_schema::{Schema, SchemaFault};
+use bb_run::{Board, Closing, Finish, NativeSource, Out, Plan, UnitsFault};
+use bb_schema::{Schema, SharedSchema};
+use bb_schema_classes::SchemaFault;
 use std::alloc::Global;
 
 /// Runs a schema, its initial units, the sources that are text and then those of a bundle, for at most `limit` cycles

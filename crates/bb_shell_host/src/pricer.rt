@@ -4,7 +4,8 @@ ghost use Rattle.std.specs.Prelude.{◌≡◌, true, map, IfOk};
 ghost use Rattle.bb_shell.specs.Roster.{all_open};
 ghost use Rattle.bb_shell_host.specs.Pricer.{price_of, weight_of};
 
-use bb_shell::{Ask, Memory, NativeSource, Text, UnitId, Value, View};
+use bb_schema::UnitId;
+use bb_shell::{Ask, Memory, NativeSource, Text, Value, View};
 use std::alloc::Global;
 
 /// Asks to set the slot `price` of its unit to three times its slot `weight`. At its close it reports how many units it

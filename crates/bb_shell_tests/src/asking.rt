@@ -7,9 +7,10 @@ ghost use Rattle.bb_shell_tests.specs.Asked.{asked, each_refusal};
 
 use crate::input::NOTE_SCHEMA;
 use crate::role::Role;
+use bb_schema::UnitId;
 use bb_shell::{
-    Ask, Finish, Items, Memory, NativeSource, Node, Pattern, Pipe, Query, Text, UnitId, Value,
-    View, run_texts,
+    Ask, Finish, Items, Memory, NativeSource, Node, Pattern, Pipe, Query, Text, Value, View,
+    run_texts,
 };
 use std::alloc::{AllocError, Global};
 use std::cell::Cell;

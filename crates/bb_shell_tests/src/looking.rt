@@ -3,7 +3,8 @@
 ghost use Rattle.std.specs.Prelude.{◌≡◌, true, map, IfOk};
 ghost use Rattle.bb_shell.specs.Roster.{all_open};
 
-use bb_shell::{Ask, Finish, Memory, NativeSource, Pipe, UnitId, View, run_texts};
+use bb_schema::UnitId;
+use bb_shell::{Ask, Finish, Memory, NativeSource, Pipe, View, run_texts};
 use std::alloc::{AllocError, Global};
 use std::cell::Cell;
 use std::fmt::Write;

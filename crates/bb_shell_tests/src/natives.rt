@@ -5,9 +5,10 @@ ghost use Rattle.std.specs.Prelude.{◌≡◌, true, map, IfOk};
 ghost use Rattle.bb_shell.specs.Roster.{all_open};
 
 use crate::input::{FIRST, HAIL, Input, NOTE_SCHEMA, ONE_NOTE};
+use bb_schema::UnitId;
 use bb_shell::{
-    Ask, Done, Finish, InputFault, Memory, NativeSource, Pipe, UnitId, View, check_texts,
-    compile_texts, run_texts,
+    Ask, Done, Finish, InputFault, Memory, NativeSource, Pipe, View, check_texts, compile_texts,
+    run_texts,
 };
 use std::alloc::Global;
 use std::cell::Cell;

@@ -49,8 +49,8 @@ one_there m leaf n h = at (fin.get m n) refl h
     at (Some values) some g = rw some refl
 
 -- what the index counts is the number of members that pass
-pub counted : (m : Members) → IsIndexed m → (leaf : Leaf) (n : ℕ) → IsCount leaf m.places n → n ≡ length (filter (passes_one (membership m) leaf) (fin.keys (membership m)))
-counted m indexed leaf n count =
+pub count_is_length : (m : Members) → IsIndexed m → (leaf : Leaf) (n : ℕ) → IsCount leaf m.places n → n ≡ length (filter (passes_one (membership m) leaf) (fin.keys (membership m)))
+count_is_length m indexed leaf n count =
     let all = membership m in
     let passing = passes_one all leaf in
     count_is (fin.get all) m.places (indexed_of m indexed) leaf n count (filter passing (fin.keys all)) (IsStrictlySortedBy-filter nat_cmp passing (fin.keys all) (keys_rise all)) (λ q.

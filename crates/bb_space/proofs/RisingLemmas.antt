@@ -11,9 +11,9 @@ use Rattle.std.specs.FinMap.{FinMap, keys, entries, entries_sorted, find, is_sor
 use Rattle.std.specs.FinMap.Entries.{below_all, same_entries}
 use Rattle.bb_basis.proofs.BoolLemmas.{and_false, T_and}
 
-both : (a b : Bool) → T (a && b) → T a × T b
-both true b h = (tt, h)
-both false b h = absurd h
+T_parts : (a b : Bool) → T (a && b) → T a × T b
+T_parts true b h = (tt, h)
+T_parts false b h = absurd h
 
 less : (o : Ordering) → T (is_lt o) → o ≡ Less
 less Less h = refl
@@ -22,12 +22,12 @@ less Greater h = absurd h
 
 all_above : {X : Type 0} (k : ℕ) (es : List (ℕ × X)) → T (below_all nat_cmp k es) → AllByRecursion (λ n. nat_cmp k n ≡ Less) (map (λ e. e.0) es)
 all_above k [] h = tt
-all_above k (e ∷ es) h = let p = both _ _ h in (less _ p.0, all_above k es p.1)
+all_above k (e ∷ es) h = let p = T_parts _ _ h in (less _ p.0, all_above k es p.1)
 
 rising_entries : {X : Type 0} (es : List (ℕ × X)) → T (is_sorted nat_cmp es) → IsStrictlySortedBy nat_cmp (map (λ e. e.0) es)
 unfolding IsStrictlySortedBy
 rising_entries [] h = tt
-rising_entries (e ∷ es) h = let p = both _ _ h in (all_above e.0 es p.0, rising_entries es p.1)
+rising_entries (e ∷ es) h = let p = T_parts _ _ h in (all_above e.0 es p.0, rising_entries es p.1)
 
 -- the keys of a map rise
 pub keys_rise : {X : Type 0} (m : FinMap nat_cmp X) → IsStrictlySortedBy nat_cmp (keys m)

@@ -51,9 +51,9 @@ module _ (p : ℕ → Bool) (x : ℕ) where
   first_by a true rest lt later = put_before x a rest (lt-ltb x a lt)
   first_by a false rest lt later = later
 
-  first : (n a : ℕ) → x < a → with_number x (passed a n) ≡ x ∷ passed a n
-  first zero a lt = refl
-  first (suc n) a lt = first_by a (p a) (passed (a + 1) n) lt (first n (a + 1) (omega (arith, lt)))
+  with_lowest_number : (n a : ℕ) → x < a → with_number x (passed a n) ≡ x ∷ passed a n
+  with_lowest_number zero a lt = refl
+  with_lowest_number (suc n) a lt = first_by a (p a) (passed (a + 1) n) lt (with_lowest_number n (a + 1) (omega (arith, lt)))
 
   -- beyond the number none more pass
   beyond_by : (a : ℕ) (rest all : List ℕ) → (a == x) ≡ false → rest ≡ all → cond (more a) (a ∷ rest) rest ≡ cond (p a) (a ∷ all) all
@@ -70,7 +70,7 @@ module _ (p : ℕ → Bool) (x : ℕ) where
   put_by n a false true at is out le lt later =
       let same : a ≡ x = eqb-true a x is in
       let above : x < a + 1 = omega (arith, same) in
-      first n (a + 1) above ∙ (ap (λ k. k ∷ passed (a + 1) n) (sym same) ∙ ap (λ ks. a ∷ ks) (sym (beyond n (a + 1) above)))
+      with_lowest_number n (a + 1) above ∙ (ap (λ k. k ∷ passed (a + 1) n) (sym same) ∙ ap (λ ks. a ∷ ks) (sym (beyond n (a + 1) above)))
   put_by n a true false at is out le lt later =
       let below : a < x = not_same a is le in
       put_after x a (passed (a + 1) n) (le-ltb x a (omega (arith, below))) ∙ ap (λ ks. a ∷ ks) (later below)

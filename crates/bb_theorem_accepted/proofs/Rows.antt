@@ -3,8 +3,8 @@ use Rattle.std.proofs.Common.{◌≡◌, ℕ, true, false, List, [], ◌∷◌, 
 use Rattle.std.specs.Prelude.{pos}
 use Rattle.bb_code.specs.declared.op.Calculation.TheVariants.{Add}
 use Rattle.bb_schema.specs.Schema.{Schema}
-use Rattle.bb_verify_effect.specs.Kind.TheVariants as kinds
-use Rattle.bb_verify_effect.specs.Op.TheVariants as ops
+use Rattle.bb_code.specs.declared.frame.Kind.TheVariants as kinds
+use Rattle.bb_code.specs.declared.op.Op.TheVariants as ops
 use Rattle.bb_lang.specs.Blocks.{BlockTree, no_statement, before_others, action, if_of, with_of, for_of, absent, otherwise}
 use Rattle.bb_lang.specs.Atom.TheVariants as atoms
 use Rattle.bb_lang.specs.Binding.TheVariants.{As}
@@ -24,7 +24,7 @@ use Rattle.bb_compile.specs.Actions.{end_code, action_code}
 use Rattle.bb_compile.specs.Statements.{if_code, if_ended, otherwise_code, statement_code, statements_code}
 use Rattle.bb_compile.specs.Parts.{version_for, part_code}
 use Rattle.bb_compile_scope.specs.Ending.{block_ends, always_ends}
-use Rattle.bb_verify.specs.PartType.TheVariants.{Require, Do}
+use Rattle.bb_verify_effect.specs.declared.part.Part.TheVariants.{Require, Do}
 use Rattle.bb_theorem_accepted.specs.Loopless.{is_loopless}
 use Rattle.bb_theorem_accepted.proofs.buffers.StraightLemmas.{straight_code}
 

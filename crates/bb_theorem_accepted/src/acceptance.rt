@@ -4,13 +4,13 @@ ghost use Rattle.std.specs.Prelude.{◌≡◌, List, Ok};
 ghost use Rattle.bb_lang.specs.Blocks.{BlockTree};
 ghost use Rattle.bb_compile_scope.specs.Place.{Place};
 ghost use Rattle.bb_compile.specs.Parts.{part_code};
-ghost use Rattle.bb_verify_effect.specs.Code.{Code as AnyCode};
+ghost use Rattle.bb_code.specs.Code.{Code as AnyCode};
 ghost use Rattle.bb_verify.specs.Accepted.{checked};
-ghost use Rattle.bb_verify.specs.FrameType.{Frame};
-ghost use Rattle.bb_verify.specs.PartType.{Part};
+ghost use Rattle.bb_verify_effect.specs.declared.frame.Frame.{Frame};
+ghost use Rattle.bb_verify_effect.specs.declared.part.Part.{Part};
 ghost use Rattle.bb_theorem_accepted.specs.Classes.{HasClasses};
 
-use bb_verify_effect::Schema;
+use bb_schema::Schema;
 
 /// States that the verifier accepts the code of a part for that part, regardless of its statements and expressions.
 ///

@@ -8,10 +8,10 @@ use Rattle.bb_lang_tree.specs.declared.fault.LangFault.TheVariants.{Token, Nesti
 use Rattle.bb_lang_tree.specs.State.{State, at}
 use Rattle.bb_lang_tree.specs.Tokens.{is_int, is_text}
 use Rattle.bb_lang_tree.specs.Words.{name_at}
-use Rattle.bb_lang.specs.Atom.{Atom}
-use Rattle.bb_lang.specs.Variable.{Variable}
-use Rattle.bb_lang.specs.Variable.TheVariants.{It, Ev, Named}
-use Rattle.bb_lang.specs.Trees.{atom}
+use Rattle.bb_lang_tree.specs.declared.atom.Atom.{Atom}
+use Rattle.bb_lang_tree.specs.declared.atom.Variable.{Variable}
+use Rattle.bb_lang_tree.specs.declared.atom.Variable.TheVariants.{It, Ev, Named}
+use Rattle.bb_lang_tree.specs.Trees.{atom}
 use Rattle.bb_lang.specs.Expressions.{Inner, opened, variable_at, variable, label_or_variable, named, atom_of}
 use Rattle.bb_lang.specs.declared.sources.TheConstants.{NESTING_LIMIT}
 use Rattle.bb_theorem_grammar.specs.Tokens.{Next}

@@ -4,13 +4,13 @@ use Rattle.bb_basis.specs.Results.{ok_or}
 use Rattle.bb_basis.proofs.ResultLemmas.{ok_or_ok}
 use Rattle.bb_lang_tree.specs.declared.fault.LangFault.TheVariants.{Token}
 use Rattle.bb_lang_tree.specs.State.{State, Reader, at}
-use Rattle.bb_lang.specs.Unary.{Unary}
-use Rattle.bb_lang.specs.Binary.{Binary}
-use Rattle.bb_lang.specs.Binary.TheVariants as binaries
-use Rattle.bb_lang.specs.Operator.TheVariants as operators
-use Rattle.bb_lang.specs.Division.TheVariants.{Quotient, Remainder}
-use Rattle.bb_lang.specs.Trees.{ExprTree, PatternTree, binary, and_of, or_of, not_of}
-use Rattle.bb_lang.specs.View.{patterns_of}
+use Rattle.bb_lang_tree.specs.declared.atom.Unary.{Unary}
+use Rattle.bb_lang_tree.specs.declared.atom.Binary.{Binary}
+use Rattle.bb_lang_tree.specs.declared.atom.Binary.TheVariants as binaries
+use Rattle.bb_lang_tree.specs.declared.atom.Operator.TheVariants as operators
+use Rattle.bb_lang_tree.specs.declared.atom.Division.TheVariants.{Quotient, Remainder}
+use Rattle.bb_lang_tree.specs.Trees.{ExprTree, PatternTree, binary, and_of, or_of, not_of}
+use Rattle.bb_lang_tree.specs.View.{patterns_of}
 use Rattle.bb_lang.specs.Repeats.{items}
 use Rattle.bb_lang.specs.Expressions.{Inner, step_by, step, operator_at, division_at, chain_of, condition, found_in, linked_to, sequence, grouped, pair_of, interval, sized, unary_at, binary_at, applied, factor, term, sum, comparison_at, compared, comparison, conjunction, expr_in, relation_at, tested, parts, part, pattern_in, inside}
 use Rattle.bb_lang.specs.declared.sources.TheConstants.{NESTING_LIMIT}

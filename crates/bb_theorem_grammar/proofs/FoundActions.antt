@@ -5,10 +5,10 @@ use Rattle.bb_basis.specs.Results.{◌>>=◌}
 use Rattle.bb_lang_tree.specs.declared.fault.LangFault.{LangFault}
 use Rattle.bb_lang_tree.specs.State.{State, at, left}
 use Rattle.bb_lang_tree.specs.Words.{is_reserved}
-use Rattle.bb_lang.specs.Unary.{Unary}
-use Rattle.bb_lang.specs.Binary.{Binary}
-use Rattle.bb_lang.specs.Action.{Action}
-use Rattle.bb_lang.specs.Trees.{ExprTree}
+use Rattle.bb_lang_tree.specs.declared.atom.Unary.{Unary}
+use Rattle.bb_lang_tree.specs.declared.atom.Binary.{Binary}
+use Rattle.bb_lang_tree.specs.declared.block.Action.{Action}
+use Rattle.bb_lang_tree.specs.Trees.{ExprTree}
 use Rattle.bb_lang.specs.Repeats.{repeated, next_item, items}
 use Rattle.bb_lang.specs.Expressions.{expr, inside}
 use Rattle.bb_lang.specs.Statements.{slot_of, space_of, let_of, assign_of, new_of, set_of, link_of, unlink_of, enter_of, leave_of, delete_of, say_of, rate_of, decline_of, answer_of, change_of, action_of}
@@ -18,7 +18,7 @@ use Rattle.bb_theorem_grammar.specs.Repeats.{AreMany, IsNextItem, AreListed}
 use Rattle.bb_theorem_grammar.specs.Expressions.{IsUnary, IsBinary, IsExpr, IsConj, IsCmp, IsSum, IsTerm, IsFact}
 use Rattle.bb_theorem_grammar.specs.Actions.{IsSlot, IsAction}
 use Rattle.bb_theorem_grammar.proofs.ExpressionLemmas.{expr_in_read, all_ready}
-use Rattle.bb_theorem_grammar.proofs.FoundTokens.{next_found, yes_is, no_is, ok_then, here, skip_found, NotAt, none_pass, missed}
+use Rattle.bb_theorem_grammar.proofs.FoundTokens.{next_found, yes_is, no_is, ok_then, at_its_token, skip_found, NotAt, none_pass, missed}
 use Rattle.bb_theorem_grammar.proofs.FoundNames.{Stands, member_found, name_found, declared_found, is_free, name_others, quote_others}
 use Rattle.bb_theorem_grammar.proofs.FoundParts.{expr_ends, none_found, variable_found, variable_others, int_first_than}
 use Rattle.bb_theorem_grammar.proofs.FoundProductions.{comma_found, no_comma_found, no_items_found, items_found}
@@ -107,7 +107,7 @@ module _ (n m : ℕ) (lim : n + m ≡ NESTING_LIMIT) where
       comma_step e es s t u v k le c (expr_found d m lim c.next.is_token (more_after more is)) (λ j later. more_exprs more is j later)
 
   listed_found : (es : List ExprTree) (s t : State) → AreListed (IsExpr n) es s t → Stands s → t.token ≡ codes ";" → items (codes ";") (expr m) s ≡ Ok (es, t)
-  listed_found es s t AreListed.none_listed st is = no_items_found (expr m) (codes ";") s (here (codes ";") s is)
+  listed_found es s t AreListed.none_listed st is = no_items_found (expr m) (codes ";") s (at_its_token (codes ";") s is)
   listed_found es s t (AreListed.listed {x = x} {xs = xs} {t = u} d ds) st is =
       items_found (expr m) (codes ";") x xs s u t (expr_start d st) (expr_found d m lim st (more_after ds is)) (more_exprs ds is (left u) (omega arith))
 
@@ -116,39 +116,39 @@ module _ (n m : ℕ) (lim : n + m ≡ NESTING_LIMIT) where
 module _ (m : ℕ) (s : State) (r : Result (Action × State) LangFault) where
   let_word : s.token ≡ codes "let" → let_of m s ≡ r → action_of m s ≡ r
   unfolding action_of
-  let_word is h = yes_is (at (codes "let") s) _ _ (here (codes "let") s is) h
+  let_word is h = yes_is (at (codes "let") s) _ _ (at_its_token (codes "let") s is) h
 
   new_word : s.token ≡ codes "new" → new_of s ≡ r → action_of m s ≡ r
   unfolding action_of
   new_word is h =
       let others = missed (codes "new") s is (codes "let" ∷ []) refl in
-      no_is (at (codes "let") s) _ _ others.0 (yes_is (at (codes "new") s) _ _ (here (codes "new") s is) h)
+      no_is (at (codes "let") s) _ _ others.0 (yes_is (at (codes "new") s) _ _ (at_its_token (codes "new") s is) h)
 
   say_word : s.token ≡ codes "say" → say_of m s ≡ r → action_of m s ≡ r
   unfolding action_of
   say_word is h =
       let others = missed (codes "say") s is (codes "let" ∷ codes "new" ∷ []) refl in
-      no_is (at (codes "let") s) _ _ others.0 (no_is (at (codes "new") s) _ _ others.1.0 (yes_is (at (codes "say") s) _ _ (here (codes "say") s is) h))
+      no_is (at (codes "let") s) _ _ others.0 (no_is (at (codes "new") s) _ _ others.1.0 (yes_is (at (codes "say") s) _ _ (at_its_token (codes "say") s is) h))
 
   rate_word : s.token ≡ codes "rate" → rate_of m s ≡ r → action_of m s ≡ r
   unfolding action_of
   rate_word is h =
       let others = missed (codes "rate") s is (codes "let" ∷ codes "new" ∷ codes "say" ∷ []) refl in
-      no_is (at (codes "let") s) _ _ others.0 (no_is (at (codes "new") s) _ _ others.1.0 (no_is (at (codes "say") s) _ _ others.1.1.0 (yes_is (at (codes "rate") s) _ _ (here (codes "rate") s is) h)))
+      no_is (at (codes "let") s) _ _ others.0 (no_is (at (codes "new") s) _ _ others.1.0 (no_is (at (codes "say") s) _ _ others.1.1.0 (yes_is (at (codes "rate") s) _ _ (at_its_token (codes "rate") s is) h)))
 
   decline_word : s.token ≡ codes "decline" → decline_of s ≡ r → action_of m s ≡ r
   unfolding action_of
   decline_word is h =
       let others = missed (codes "decline") s is (codes "let" ∷ codes "new" ∷ codes "say" ∷ codes "rate" ∷ []) refl in
       no_is (at (codes "let") s) _ _ others.0 (no_is (at (codes "new") s) _ _ others.1.0 (no_is (at (codes "say") s) _ _ others.1.1.0 (no_is (at (codes "rate") s) _ _ others.1.1.1.0
-      (yes_is (at (codes "decline") s) _ _ (here (codes "decline") s is) h))))
+      (yes_is (at (codes "decline") s) _ _ (at_its_token (codes "decline") s is) h))))
 
   answer_word : s.token ≡ codes "answer" → answer_of m s ≡ r → action_of m s ≡ r
   unfolding action_of
   answer_word is h =
       let others = missed (codes "answer") s is (codes "let" ∷ codes "new" ∷ codes "say" ∷ codes "rate" ∷ codes "decline" ∷ []) refl in
       no_is (at (codes "let") s) _ _ others.0 (no_is (at (codes "new") s) _ _ others.1.0 (no_is (at (codes "say") s) _ _ others.1.1.0 (no_is (at (codes "rate") s) _ _ others.1.1.1.0
-      (no_is (at (codes "decline") s) _ _ others.1.1.1.1.0 (yes_is (at (codes "answer") s) _ _ (here (codes "answer") s is) h)))))
+      (no_is (at (codes "decline") s) _ _ others.1.1.1.1.0 (yes_is (at (codes "answer") s) _ _ (at_its_token (codes "answer") s is) h)))))
 
   change_word : NotAt action_words s → change_of m s ≡ r → action_of m s ≡ r
   unfolding action_of
@@ -158,39 +158,39 @@ module _ (m : ℕ) (s : State) (r : Result (Action × State) LangFault) where
 
   set_word : s.token ≡ codes "set" → set_of m s ≡ r → change_of m s ≡ r
   unfolding change_of
-  set_word is h = yes_is (at (codes "set") s) _ _ (here (codes "set") s is) h
+  set_word is h = yes_is (at (codes "set") s) _ _ (at_its_token (codes "set") s is) h
 
   link_word : s.token ≡ codes "link" → link_of s ≡ r → change_of m s ≡ r
   unfolding change_of
   link_word is h =
       let others = missed (codes "link") s is (codes "set" ∷ []) refl in
-      no_is (at (codes "set") s) _ _ others.0 (yes_is (at (codes "link") s) _ _ (here (codes "link") s is) h)
+      no_is (at (codes "set") s) _ _ others.0 (yes_is (at (codes "link") s) _ _ (at_its_token (codes "link") s is) h)
 
   unlink_word : s.token ≡ codes "unlink" → unlink_of s ≡ r → change_of m s ≡ r
   unfolding change_of
   unlink_word is h =
       let others = missed (codes "unlink") s is (codes "set" ∷ codes "link" ∷ []) refl in
-      no_is (at (codes "set") s) _ _ others.0 (no_is (at (codes "link") s) _ _ others.1.0 (yes_is (at (codes "unlink") s) _ _ (here (codes "unlink") s is) h))
+      no_is (at (codes "set") s) _ _ others.0 (no_is (at (codes "link") s) _ _ others.1.0 (yes_is (at (codes "unlink") s) _ _ (at_its_token (codes "unlink") s is) h))
 
   enter_word : s.token ≡ codes "enter" → enter_of s ≡ r → change_of m s ≡ r
   unfolding change_of
   enter_word is h =
       let others = missed (codes "enter") s is (codes "set" ∷ codes "link" ∷ codes "unlink" ∷ []) refl in
-      no_is (at (codes "set") s) _ _ others.0 (no_is (at (codes "link") s) _ _ others.1.0 (no_is (at (codes "unlink") s) _ _ others.1.1.0 (yes_is (at (codes "enter") s) _ _ (here (codes "enter") s is) h)))
+      no_is (at (codes "set") s) _ _ others.0 (no_is (at (codes "link") s) _ _ others.1.0 (no_is (at (codes "unlink") s) _ _ others.1.1.0 (yes_is (at (codes "enter") s) _ _ (at_its_token (codes "enter") s is) h)))
 
   leave_word : s.token ≡ codes "leave" → leave_of s ≡ r → change_of m s ≡ r
   unfolding change_of
   leave_word is h =
       let others = missed (codes "leave") s is (codes "set" ∷ codes "link" ∷ codes "unlink" ∷ codes "enter" ∷ []) refl in
       no_is (at (codes "set") s) _ _ others.0 (no_is (at (codes "link") s) _ _ others.1.0 (no_is (at (codes "unlink") s) _ _ others.1.1.0 (no_is (at (codes "enter") s) _ _ others.1.1.1.0
-      (yes_is (at (codes "leave") s) _ _ (here (codes "leave") s is) h))))
+      (yes_is (at (codes "leave") s) _ _ (at_its_token (codes "leave") s is) h))))
 
   delete_word : s.token ≡ codes "delete" → delete_of s ≡ r → change_of m s ≡ r
   unfolding change_of
   delete_word is h =
       let others = missed (codes "delete") s is (codes "set" ∷ codes "link" ∷ codes "unlink" ∷ codes "enter" ∷ codes "leave" ∷ []) refl in
       no_is (at (codes "set") s) _ _ others.0 (no_is (at (codes "link") s) _ _ others.1.0 (no_is (at (codes "unlink") s) _ _ others.1.1.0 (no_is (at (codes "enter") s) _ _ others.1.1.1.0
-      (no_is (at (codes "leave") s) _ _ others.1.1.1.1.0 (yes_is (at (codes "delete") s) _ _ (here (codes "delete") s is) h)))))
+      (no_is (at (codes "leave") s) _ _ others.1.1.1.1.0 (yes_is (at (codes "delete") s) _ _ (at_its_token (codes "delete") s is) h)))))
 
   assign_word : NotAt change_words s → assign_of m s ≡ r → change_of m s ≡ r
   unfolding change_of

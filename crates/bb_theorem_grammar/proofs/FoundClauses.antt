@@ -2,17 +2,17 @@
 use Rattle.std.proofs.Common.{◌≡◌, ℕ, zero, suc, ◌≤◌, false, List, [], ◌∷◌, length, Option, Some, None, Result, Ok, refl, ap, codes, arith}
 use Rattle.bb_lang_tree.specs.declared.fault.LangFault.{LangFault}
 use Rattle.bb_lang_tree.specs.State.{State, at, left}
-use Rattle.bb_lang.specs.ActText.{ActText}
-use Rattle.bb_lang.specs.ClauseText.{ClauseText}
-use Rattle.bb_lang.specs.PartText.{PartText}
-use Rattle.bb_lang.specs.PartTexts.{PartTexts}
-use Rattle.bb_lang.specs.ReactionText.{ReactionText}
+use Rattle.bb_lang_tree.specs.declared.source_text.ActText.{ActText}
+use Rattle.bb_lang_tree.specs.declared.source_text.ClauseText.{ClauseText}
+use Rattle.bb_lang_tree.specs.declared.source_text.PartText.{PartText}
+use Rattle.bb_lang_tree.specs.declared.source_text.PartTexts.{PartTexts}
+use Rattle.bb_lang_tree.specs.declared.source_text.ReactionText.{ReactionText}
 use Rattle.bb_lang.specs.Repeats.{repeated, as_many}
 use Rattle.bb_lang.specs.Sources.{unit_event, slot_event, space_event, change_event, event, clause, next_clause, clauses, part, part_if, reaction, reaction_if, parts, act}
 use Rattle.bb_theorem_grammar.specs.Repeats.{IsOptional, AreMany}
 use Rattle.bb_theorem_grammar.specs.Sources.{IsClassSlot, IsEvent, IsClause, AreClauses, IsPart, IsReaction, AreParts, IsAct}
 use Rattle.bb_theorem_grammar.proofs.ClauseLemmas.{clause_read}
-use Rattle.bb_theorem_grammar.proofs.FoundTokens.{next_found, yes_is, no_is, ok_then, here, skip_found, NotAt, missed}
+use Rattle.bb_theorem_grammar.proofs.FoundTokens.{next_found, yes_is, no_is, ok_then, at_its_token, skip_found, NotAt, missed}
 use Rattle.bb_theorem_grammar.proofs.FoundNames.{member_found, name_found}
 use Rattle.bb_theorem_grammar.proofs.FoundParts.{none_found, more_found}
 use Rattle.bb_theorem_grammar.proofs.FoundActions.{ok_within}
@@ -27,36 +27,36 @@ module _ (s : State) (r : Result (ClauseText × State) LangFault) where
 
 event_found : (x : ClauseText) (s t : State) → IsEvent x s t → event s ≡ Ok (x, t)
 unfolding event unit_event slot_event space_event change_event
-event_found x s t (IsEvent.create {class = class} {t = u} k a) = yes_is (at (codes "create") s) _ _ (here (codes "create") s k.is) (ok_then _ (next_found s u k.next) (ok_then _ (name_found u t class a) refl))
+event_found x s t (IsEvent.create {class = class} {t = u} k a) = yes_is (at (codes "create") s) _ _ (at_its_token (codes "create") s k.is) (ok_then _ (next_found s u k.next) (ok_then _ (name_found u t class a) refl))
 event_found x s t (IsEvent.delete {class = class} {t = u} k a) =
     no_is (at (codes "create") s) _ _ (missed (codes "delete") s k.is (codes "create" ∷ []) refl).0
-    (yes_is (at (codes "delete") s) _ _ (here (codes "delete") s k.is) (ok_then _ (next_found s u k.next) (ok_then _ (name_found u t class a) refl)))
+    (yes_is (at (codes "delete") s) _ _ (at_its_token (codes "delete") s k.is) (ok_then _ (next_found s u k.next) (ok_then _ (name_found u t class a) refl)))
 event_found x s t (IsEvent.quiescence k) =
     let others = missed (codes "quiescence") s k.is (codes "create" ∷ codes "delete" ∷ []) refl in
-    no_is (at (codes "create") s) _ _ others.0 (no_is (at (codes "delete") s) _ _ others.1.0 (yes_is (at (codes "quiescence") s) _ _ (here (codes "quiescence") s k.is) (ok_then _ (next_found s t k.next) refl)))
+    no_is (at (codes "create") s) _ _ others.0 (no_is (at (codes "delete") s) _ _ others.1.0 (yes_is (at (codes "quiescence") s) _ _ (at_its_token (codes "quiescence") s k.is) (ok_then _ (next_found s t k.next) refl)))
 event_found x s t (IsEvent.update {class = class} {x = slot} {t = u} k (IsClassSlot.class_slot {t = v} {u = w} a b c)) =
     change_word s (Ok (x, t)) (missed (codes "update") s k.is (codes "create" ∷ codes "delete" ∷ codes "quiescence" ∷ []) refl)
-    (yes_is (at (codes "update") s) _ _ (here (codes "update") s k.is)
+    (yes_is (at (codes "update") s) _ _ (at_its_token (codes "update") s k.is)
     (ok_within _ _ (next_found s u k.next) (ok_within _ _ (name_found u v class a) (ok_within _ _ (skip_found (codes ".") v w b) (ok_within _ _ (member_found w t slot c) refl)))))
 event_found x s t (IsEvent.link {class = class} {x = slot} {t = u} k (IsClassSlot.class_slot {t = v} {u = w} a b c)) =
     change_word s (Ok (x, t)) (missed (codes "link") s k.is (codes "create" ∷ codes "delete" ∷ codes "quiescence" ∷ []) refl)
-    (no_is (at (codes "update") s) _ _ (missed (codes "link") s k.is (codes "update" ∷ []) refl).0 (yes_is (at (codes "link") s) _ _ (here (codes "link") s k.is)
+    (no_is (at (codes "update") s) _ _ (missed (codes "link") s k.is (codes "update" ∷ []) refl).0 (yes_is (at (codes "link") s) _ _ (at_its_token (codes "link") s k.is)
     (ok_within _ _ (next_found s u k.next) (ok_within _ _ (name_found u v class a) (ok_within _ _ (skip_found (codes ".") v w b) (ok_within _ _ (member_found w t slot c) refl))))))
 event_found x s t (IsEvent.unlink {class = class} {x = slot} {t = u} k (IsClassSlot.class_slot {t = v} {u = w} a b c)) =
     let others = missed (codes "unlink") s k.is (codes "update" ∷ codes "link" ∷ []) refl in
     change_word s (Ok (x, t)) (missed (codes "unlink") s k.is (codes "create" ∷ codes "delete" ∷ codes "quiescence" ∷ []) refl)
-    (no_is (at (codes "update") s) _ _ others.0 (no_is (at (codes "link") s) _ _ others.1.0 (yes_is (at (codes "unlink") s) _ _ (here (codes "unlink") s k.is)
+    (no_is (at (codes "update") s) _ _ others.0 (no_is (at (codes "link") s) _ _ others.1.0 (yes_is (at (codes "unlink") s) _ _ (at_its_token (codes "unlink") s k.is)
     (ok_within _ _ (next_found s u k.next) (ok_within _ _ (name_found u v class a) (ok_within _ _ (skip_found (codes ".") v w b) (ok_within _ _ (member_found w t slot c) refl)))))))
 event_found x s t (IsEvent.enter {class = class} {space = space} {t = u} {u = v} k a b) =
     let others = missed (codes "enter") s k.is (codes "update" ∷ codes "link" ∷ codes "unlink" ∷ []) refl in
     change_word s (Ok (x, t)) (missed (codes "enter") s k.is (codes "create" ∷ codes "delete" ∷ codes "quiescence" ∷ []) refl)
-    (no_is (at (codes "update") s) _ _ others.0 (no_is (at (codes "link") s) _ _ others.1.0 (no_is (at (codes "unlink") s) _ _ others.1.1.0 (yes_is (at (codes "enter") s) _ _ (here (codes "enter") s k.is)
+    (no_is (at (codes "update") s) _ _ others.0 (no_is (at (codes "link") s) _ _ others.1.0 (no_is (at (codes "unlink") s) _ _ others.1.1.0 (yes_is (at (codes "enter") s) _ _ (at_its_token (codes "enter") s k.is)
     (ok_within _ _ (next_found s u k.next) (ok_within _ _ (name_found u v class a) (ok_within _ _ (name_found v t space b) refl)))))))
 event_found x s t (IsEvent.leave {class = class} {space = space} {t = u} {u = v} k a b) =
     let others = missed (codes "leave") s k.is (codes "update" ∷ codes "link" ∷ codes "unlink" ∷ codes "enter" ∷ []) refl in
     change_word s (Ok (x, t)) (missed (codes "leave") s k.is (codes "create" ∷ codes "delete" ∷ codes "quiescence" ∷ []) refl)
     (no_is (at (codes "update") s) _ _ others.0 (no_is (at (codes "link") s) _ _ others.1.0 (no_is (at (codes "unlink") s) _ _ others.1.1.0 (no_is (at (codes "enter") s) _ _ others.1.1.1.0
-    (yes_is (at (codes "leave") s) _ _ (here (codes "leave") s k.is) (ok_within _ _ (next_found s u k.next) (ok_within _ _ (name_found u v class a) (ok_within _ _ (name_found v t space b) refl))))))))
+    (yes_is (at (codes "leave") s) _ _ (at_its_token (codes "leave") s k.is) (ok_within _ _ (next_found s u k.next) (ok_within _ _ (name_found u v class a) (ok_within _ _ (name_found v t space b) refl))))))))
 
 -- ---- clauses
 
@@ -69,7 +69,7 @@ clause_at x s t (IsClause.clause k a c) = k.is
 
 one_clause : (x : ClauseText) (s t : State) → IsClause x s t → next_clause s ≡ Ok (Some x, t)
 unfolding next_clause
-one_clause x s t d = yes_is (at (codes "when") s) _ _ (here (codes "when") s (clause_at x s t d)) (ok_then _ (clause_found x s t d) refl)
+one_clause x s t d = yes_is (at (codes "when") s) _ _ (at_its_token (codes "when") s (clause_at x s t d)) (ok_then _ (clause_found x s t d) refl)
 
 no_clause : (s : State) → at (codes "when") s ≡ false → next_clause s ≡ Ok (None, s)
 unfolding next_clause
@@ -102,7 +102,7 @@ part_at word p s t (IsPart.part k b) = k.is
 part_if_found : (word : List ℕ) (o : Option PartText) (s t : State) → IsOptional (IsPart word) o s t → at word t ≡ false → part_if word s ≡ Ok (o, t)
 unfolding part_if
 part_if_found word o s t IsOptional.missing other = no_is (at word s) _ _ other refl
-part_if_found word o s t (IsOptional.there {x = p} d) other = yes_is (at word s) _ _ (here word s (part_at word p s t d)) (ok_then _ (part_found word p s t d) refl)
+part_if_found word o s t (IsOptional.there {x = p} d) other = yes_is (at word s) _ _ (at_its_token word s (part_at word p s t d)) (ok_then _ (part_found word p s t d) refl)
 
 reaction_found : (word : List ℕ) (x : ReactionText) (s t : State) → IsReaction word x s t → reaction s ≡ Ok (x, t)
 unfolding reaction
@@ -116,7 +116,7 @@ reaction_at word x s t (IsReaction.reaction k a c d b) = k.is
 reaction_if_found : (word : List ℕ) (o : Option ReactionText) (s t : State) → IsOptional (IsReaction word) o s t → at word t ≡ false → reaction_if word s ≡ Ok (o, t)
 unfolding reaction_if
 reaction_if_found word o s t IsOptional.missing other = no_is (at word s) _ _ other refl
-reaction_if_found word o s t (IsOptional.there {x = x} d) other = yes_is (at word s) _ _ (here word s (reaction_at word x s t d)) (ok_then _ (reaction_found word x s t d) refl)
+reaction_if_found word o s t (IsOptional.there {x = x} d) other = yes_is (at word s) _ _ (at_its_token word s (reaction_at word x s t d)) (ok_then _ (reaction_found word x s t d) refl)
 
 -- ---- what comes after a part
 
@@ -151,6 +151,6 @@ parts_found ps a s t u (AreParts.parts {a = require} {d = revalidate} {b = obvia
 
 pub act_found : (a : ActText) (s t : State) → IsAct a s t → act s ≡ Ok (a, t)
 unfolding act
-act_found a s t (IsAct.acts {p = p} d) = yes_is (at (codes "do") s) _ _ (here (codes "do") s (part_at (codes "do") p s t d)) (ok_then _ (part_found (codes "do") p s t d) refl)
+act_found a s t (IsAct.acts {p = p} d) = yes_is (at (codes "do") s) _ _ (at_its_token (codes "do") s (part_at (codes "do") p s t d)) (ok_then _ (part_found (codes "do") p s t d) refl)
 act_found a s t (IsAct.native {t = u} k c) =
     no_is (at (codes "do") s) _ _ (missed (codes "native") s k.is (codes "do" ∷ []) refl).0 (ok_then _ (skip_found (codes "native") s u k) (ok_then _ (skip_found (codes ";") u t c) refl))

@@ -4,15 +4,15 @@ use Rattle.std.specs.Prelude.{ℤ}
 use Rattle.bb_basis.specs.Names.{is_name}
 use Rattle.bb_lang_tree.specs.State.{State, Reader, at, left}
 use Rattle.bb_lang_tree.specs.Words.{is_reserved}
-use Rattle.bb_lang.specs.Atom.TheVariants as atoms
-use Rattle.bb_lang.specs.Binary.TheVariants as binaries
-use Rattle.bb_lang.specs.Operator.TheVariants as operators
-use Rattle.bb_lang.specs.Division.TheVariants.{Quotient, Remainder}
-use Rattle.bb_lang.specs.Step.{Step}
-use Rattle.bb_lang.specs.Step.TheVariants.{Apply, Divide}
-use Rattle.bb_lang.specs.Sequence.{Sequence}
-use Rattle.bb_lang.specs.Trees.{ExprTree, PatternTree, unary, binary, size_of, test}
-use Rattle.bb_lang.specs.View.{sequence_of}
+use Rattle.bb_lang_tree.specs.declared.atom.Atom.TheVariants as atoms
+use Rattle.bb_lang_tree.specs.declared.atom.Binary.TheVariants as binaries
+use Rattle.bb_lang_tree.specs.declared.atom.Operator.TheVariants as operators
+use Rattle.bb_lang_tree.specs.declared.atom.Division.TheVariants.{Quotient, Remainder}
+use Rattle.bb_lang_tree.specs.declared.tree.Step.{Step}
+use Rattle.bb_lang_tree.specs.declared.tree.Step.TheVariants.{Apply, Divide}
+use Rattle.bb_lang_tree.specs.declared.tree.Sequence.{Sequence}
+use Rattle.bb_lang_tree.specs.Trees.{ExprTree, PatternTree, unary, binary, size_of, test}
+use Rattle.bb_lang_tree.specs.View.{sequence_of}
 use Rattle.bb_lang.specs.Repeats.{repeated, next_item, items}
 use Rattle.bb_lang.specs.Expressions.{condition, sequence, unary_at, binary_at, factor, term, sum, comparison, conjunction, expr_in, pattern_in, inside, inner_of}
 use Rattle.bb_lang.specs.declared.sources.TheConstants.{NESTING_LIMIT}
@@ -22,7 +22,7 @@ use Rattle.bb_theorem_grammar.specs.Expressions.{IsExpr, AreOrs, IsConj, AreAnds
 use Rattle.bb_theorem_grammar.proofs.SoundLemmas.{next_left}
 use Rattle.bb_theorem_grammar.proofs.NameLemmas.{divisor_read}
 use Rattle.bb_theorem_grammar.proofs.ExpressionLemmas.{fact_read, term_read, cmp_read, conj_read, pattern_in_read, all_ready}
-use Rattle.bb_theorem_grammar.proofs.FoundTokens.{NotAt, none_pass, here, missed}
+use Rattle.bb_theorem_grammar.proofs.FoundTokens.{NotAt, none_pass, at_its_token, missed}
 use Rattle.bb_theorem_grammar.proofs.FoundNames.{Stands, is_free, name_others, quote_others, divisor_found}
 use Rattle.bb_theorem_grammar.proofs.FoundParts.{fact_ends, term_ends, sum_ends, cmp_ends, conj_ends, expr_ends, seq_ends, none_found, more_found, or_reader, and_reader, term_reader, fact_reader, no_or_found, no_and_found, no_term_found, no_fact_found, or_found, and_found, plus_found, minus_found, times_found, quotient_found, remainder_found, opened_found, part_words, unary_found, binary_found, no_comparison, comparison_found, int_atom, text_atom, true_atom, false_atom, slot_atom, label_atom, variable_atom, variable_first, name_first, int_first}
 use Rattle.bb_theorem_grammar.proofs.FoundProductions.{expr_whole, conj_whole, sum_whole, term_whole, alone_whole, compared_whole, group_whole, pair_whole, sized_whole, parts_whole, part_whole, grouped_fact, interval_fact, size_fact, other_fact, one_by, two_by, atom_fact, all_pat, both_pat, either_pat, neither_pat, tested_whole, tested_pat, where_found, anywhere_found, find_found, links_found, comma_found, no_comma_found, no_items_found, items_found}
@@ -225,7 +225,7 @@ mutual
       tested_pat (inside m) (test x relation e) x s t v a (tested_whole (inside m) x relation word e s t u v a w k (expr_found d m lim k.next.is_token ends))
 
   pats_found : {n : ℕ} {ps : List PatternTree} {s t : State} → ArePats n ps s t → (m : ℕ) → n + m ≡ NESTING_LIMIT → t.token ≡ codes ")" → items (codes ")") (pattern_in (inside m)) s ≡ Ok (ps, t)
-  pats_found (ArePats.no_pat {s = s}) m lim is = no_items_found (pattern_in (inside m)) (codes ")") s (here (codes ")") s is)
+  pats_found (ArePats.no_pat {s = s}) m lim is = no_items_found (pattern_in (inside m)) (codes ")") s (at_its_token (codes ")") s is)
   pats_found (ArePats.pats {p = p} {ps = ps} {s = s} {t = t} {u = u} d ds) m lim is =
       items_found (pattern_in (inside m)) (codes ")") p ps s t u (no_close d) (pat_found d m lim (more_pats_after ds is)) (more_pats_found ds m lim is (left t) (omega arith))
 

@@ -18,7 +18,7 @@ use Rattle.bb_theorem_grammar.specs.Tokens.{first_passes, IsToken}
 use Rattle.bb_theorem_grammar.specs.Words.{IsMember, IsName, with_name, Declares, IsNumber, IsInt, IsDivisor, IsText}
 pub use Rattle.bb_theorem_grammar.proofs.SoundLemmas.{Stands}
 use Rattle.bb_theorem_grammar.proofs.NameLemmas.{value_read}
-use Rattle.bb_theorem_grammar.proofs.FoundTokens.{next_found, yes_is, no_is, ok_then, here, NotAt, none_pass, others}
+use Rattle.bb_theorem_grammar.proofs.FoundTokens.{next_found, yes_is, no_is, ok_then, at_its_token, NotAt, none_pass, others}
 
 -- ---- names
 
@@ -113,7 +113,7 @@ number_found limit n s t h = ok_then _ (number_at_found limit n s t h) (ok_then 
 pub int_found : (i : ℤ) (s t : State) → IsInt i s t → Stands s → int s ≡ Ok (i, t)
 unfolding int
 int_found i s t (IsInt.plain {n = n} h) stands = no_is (at (codes "-") s) _ _ (digit_others s stands h.kind (codes "-" ∷ []) refl).0 (ok_then _ (number_found (2 ^ 63 - 1) n s t h) refl)
-int_found i s t (IsInt.minus {n = n} {t = u} a h) stands = yes_is (at (codes "-") s) _ _ (here (codes "-") s a.is) (ok_then _ (next_found s u a.next) (ok_then _ (number_found (2 ^ 63) n u t h) refl))
+int_found i s t (IsInt.minus {n = n} {t = u} a h) stands = yes_is (at (codes "-") s) _ _ (at_its_token (codes "-") s a.is) (ok_then _ (next_found s u a.next) (ok_then _ (number_found (2 ^ 63) n u t h) refl))
 
 zero_by : (n : ℕ) (t : Bool) → (n == 0) ≡ t → 0 < n → (n == 0) ≡ false
 zero_by n true is h = let none : n ≡ 0 = grind (arith, nat_tests, is) in absurd (omega (arith, none, h))

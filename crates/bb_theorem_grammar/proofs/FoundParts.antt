@@ -9,27 +9,27 @@ use Rattle.bb_lang_tree.specs.Tokens.{is_int, is_text}
 use Rattle.bb_lang_tree.specs.Words.{is_reserved}
 use Rattle.bb_lang_tree.specs.Literals.{int, text}
 use Rattle.bb_basis.specs.Names.{is_digit, is_name}
-use Rattle.bb_lang.specs.Atom.{Atom}
-use Rattle.bb_lang.specs.Atom.TheVariants as atoms
-use Rattle.bb_lang.specs.Variable.{Variable}
-use Rattle.bb_lang.specs.Variable.TheVariants.{It, Ev, Named}
-use Rattle.bb_lang.specs.Unary.{Unary}
-use Rattle.bb_lang.specs.Binary.{Binary}
-use Rattle.bb_lang.specs.Operator.{Operator}
-use Rattle.bb_lang.specs.Operator.TheVariants as operators
-use Rattle.bb_lang.specs.Division.{Division}
-use Rattle.bb_lang.specs.Division.TheVariants.{Quotient, Remainder}
-use Rattle.bb_lang.specs.Relation.{Relation}
-use Rattle.bb_lang.specs.Step.{Step}
-use Rattle.bb_lang.specs.Step.TheVariants.{Apply, Divide}
-use Rattle.bb_lang.specs.Trees.{ExprTree}
+use Rattle.bb_lang_tree.specs.declared.atom.Atom.{Atom}
+use Rattle.bb_lang_tree.specs.declared.atom.Atom.TheVariants as atoms
+use Rattle.bb_lang_tree.specs.declared.atom.Variable.{Variable}
+use Rattle.bb_lang_tree.specs.declared.atom.Variable.TheVariants.{It, Ev, Named}
+use Rattle.bb_lang_tree.specs.declared.atom.Unary.{Unary}
+use Rattle.bb_lang_tree.specs.declared.atom.Binary.{Binary}
+use Rattle.bb_lang_tree.specs.declared.atom.Operator.{Operator}
+use Rattle.bb_lang_tree.specs.declared.atom.Operator.TheVariants as operators
+use Rattle.bb_lang_tree.specs.declared.atom.Division.{Division}
+use Rattle.bb_lang_tree.specs.declared.atom.Division.TheVariants.{Quotient, Remainder}
+use Rattle.bb_lang_tree.specs.declared.atom.Relation.{Relation}
+use Rattle.bb_lang_tree.specs.declared.tree.Step.{Step}
+use Rattle.bb_lang_tree.specs.declared.tree.Step.TheVariants.{Apply, Divide}
+use Rattle.bb_lang_tree.specs.Trees.{ExprTree}
 use Rattle.bb_lang.specs.Repeats.{more_after, repeated}
 use Rattle.bb_lang.specs.Expressions.{opened, variable_at, variable, label_or_variable, named, atom_of, unary_at, binary_at, comparison_at, relation_at, step_by, inside, inner_of}
 use Rattle.bb_lang.specs.declared.sources.TheConstants.{NESTING_LIMIT}
 use Rattle.bb_theorem_grammar.specs.Tokens.{first_passes, Next, Takes}
 use Rattle.bb_theorem_grammar.specs.Words.{IsMember, IsName, IsInt, IsDivisor, IsText}
 use Rattle.bb_theorem_grammar.specs.Expressions.{IsUnary, IsBinary, IsComparison, IsRelation, IsVariable, Opens}
-use Rattle.bb_theorem_grammar.proofs.FoundTokens.{next_found, yes_is, no_is, ok_then, here, NotAt, none_pass, missed}
+use Rattle.bb_theorem_grammar.proofs.FoundTokens.{next_found, yes_is, no_is, ok_then, at_its_token, NotAt, none_pass, missed}
 use Rattle.bb_theorem_grammar.proofs.FoundNames.{Stands, name_at_found, member_found, name_found, is_free, name_others, no_int, no_text, digit_others, quote_others, int_found, divisor_found, text_found}
 
 -- ---- what comes after
@@ -112,32 +112,32 @@ module _ (operand : Reader ExprTree) where
 
     module _ (t u : State) (e : ExprTree) (h : operand t ≡ Ok (e, u)) where
       pub or_found : Takes (codes "or") s t → or_reader s ≡ Ok (Some (Apply operators.Or e), u)
-      or_found k = apply_found None (cond (at (codes "or") s) (Some operators.Or) None) operators.Or s t u e refl (yes_is (at (codes "or") s) _ _ (here (codes "or") s k.is) refl) k.next h
+      or_found k = apply_found None (cond (at (codes "or") s) (Some operators.Or) None) operators.Or s t u e refl (yes_is (at (codes "or") s) _ _ (at_its_token (codes "or") s k.is) refl) k.next h
 
       pub and_found : Takes (codes "and") s t → and_reader s ≡ Ok (Some (Apply operators.And e), u)
-      and_found k = apply_found None (cond (at (codes "and") s) (Some operators.And) None) operators.And s t u e refl (yes_is (at (codes "and") s) _ _ (here (codes "and") s k.is) refl) k.next h
+      and_found k = apply_found None (cond (at (codes "and") s) (Some operators.And) None) operators.And s t u e refl (yes_is (at (codes "and") s) _ _ (at_its_token (codes "and") s k.is) refl) k.next h
 
       pub plus_found : Takes (codes "+") s t → term_reader s ≡ Ok (Some (Apply operators.Plus e), u)
-      plus_found k = apply_found None (cond (at (codes "+") s) (Some operators.Plus) (cond (at (codes "-") s) (Some operators.Minus) None)) operators.Plus s t u e refl (yes_is (at (codes "+") s) _ _ (here (codes "+") s k.is) refl) k.next h
+      plus_found k = apply_found None (cond (at (codes "+") s) (Some operators.Plus) (cond (at (codes "-") s) (Some operators.Minus) None)) operators.Plus s t u e refl (yes_is (at (codes "+") s) _ _ (at_its_token (codes "+") s k.is) refl) k.next h
 
       pub minus_found : Takes (codes "-") s t → term_reader s ≡ Ok (Some (Apply operators.Minus e), u)
       minus_found k = apply_found None (cond (at (codes "+") s) (Some operators.Plus) (cond (at (codes "-") s) (Some operators.Minus) None)) operators.Minus s t u e refl
-          (no_is (at (codes "+") s) _ _ (missed (codes "-") s k.is (codes "+" ∷ []) refl).0 (yes_is (at (codes "-") s) _ _ (here (codes "-") s k.is) refl)) k.next h
+          (no_is (at (codes "+") s) _ _ (missed (codes "-") s k.is (codes "+" ∷ []) refl).0 (yes_is (at (codes "-") s) _ _ (at_its_token (codes "-") s k.is) refl)) k.next h
 
       pub times_found : Takes (codes "*") s t → fact_reader s ≡ Ok (Some (Apply operators.Times e), u)
       times_found k =
           let not_here = missed (codes "*") s k.is (codes "/" ∷ codes "%" ∷ []) refl in
           apply_found (cond (at (codes "/") s) (Some Quotient) (cond (at (codes "%") s) (Some Remainder) None)) (cond (at (codes "*") s) (Some operators.Times) None) operators.Times s t u e
-          (no_is (at (codes "/") s) _ _ not_here.0 (no_is (at (codes "%") s) _ _ not_here.1.0 refl)) (yes_is (at (codes "*") s) _ _ (here (codes "*") s k.is) refl) k.next h
+          (no_is (at (codes "/") s) _ _ not_here.0 (no_is (at (codes "%") s) _ _ not_here.1.0 refl)) (yes_is (at (codes "*") s) _ _ (at_its_token (codes "*") s k.is) refl) k.next h
 
     module _ (t u : State) (i : ℤ) (h : IsDivisor i t u) where
       pub quotient_found : Takes (codes "/") s t → fact_reader s ≡ Ok (Some (Divide Quotient i), u)
       quotient_found k = divide_found (cond (at (codes "/") s) (Some Quotient) (cond (at (codes "%") s) (Some Remainder) None)) (cond (at (codes "*") s) (Some operators.Times) None) Quotient s t u i
-          (yes_is (at (codes "/") s) _ _ (here (codes "/") s k.is) refl) k.next h
+          (yes_is (at (codes "/") s) _ _ (at_its_token (codes "/") s k.is) refl) k.next h
 
       pub remainder_found : Takes (codes "%") s t → fact_reader s ≡ Ok (Some (Divide Remainder i), u)
       remainder_found k = divide_found (cond (at (codes "/") s) (Some Quotient) (cond (at (codes "%") s) (Some Remainder) None)) (cond (at (codes "*") s) (Some operators.Times) None) Remainder s t u i
-          (no_is (at (codes "/") s) _ _ (missed (codes "%") s k.is (codes "/" ∷ []) refl).0 (yes_is (at (codes "%") s) _ _ (here (codes "%") s k.is) refl)) k.next h
+          (no_is (at (codes "/") s) _ _ (missed (codes "%") s k.is (codes "/" ∷ []) refl).0 (yes_is (at (codes "%") s) _ _ (at_its_token (codes "%") s k.is) refl)) k.next h
 
 -- ---- brackets
 
@@ -145,7 +145,7 @@ pub opened_found : (n m : ℕ) (bracket : List ℕ) (s t : State) → n + m ≡ 
 unfolding opened inside
 opened_found n zero bracket s t limit o = absurd (let within = o.within in omega (arith, limit, within))
 opened_found n (suc j) bracket s t limit o =
-    (j, omega (arith, limit), ok_then _ (yes_is (at bracket s) _ _ (here bracket s o.takes.is) refl) (ok_then _ (next_found s t o.takes.next) refl))
+    (j, omega (arith, limit), ok_then _ (yes_is (at bracket s) _ _ (at_its_token bracket s o.takes.is) refl) (ok_then _ (next_found s t o.takes.next) refl))
 
 -- ---- words of operations
 
@@ -166,13 +166,13 @@ bracket_words = codes "(" ∷ codes "[" ∷ codes "size" ∷ []
 
 pub unary_found : (operation : Unary) (word : List ℕ) (s : State) → IsUnary operation word → s.token ≡ word → (unary_at s ≡ Some operation) × NotAt bracket_words s
 unfolding unary_at
-unary_found operation word s IsUnary.not is = (yes_is (at (codes "not") s) _ _ (here (codes "not") s is) refl, missed (codes "not") s is bracket_words refl)
+unary_found operation word s IsUnary.not is = (yes_is (at (codes "not") s) _ _ (at_its_token (codes "not") s is) refl, missed (codes "not") s is bracket_words refl)
 unary_found operation word s IsUnary.low is =
     let no = missed (codes "low") s is (codes "not" ∷ []) refl in
-    (no_is (at (codes "not") s) _ _ no.0 (yes_is (at (codes "low") s) _ _ (here (codes "low") s is) refl), missed (codes "low") s is bracket_words refl)
+    (no_is (at (codes "not") s) _ _ no.0 (yes_is (at (codes "low") s) _ _ (at_its_token (codes "low") s is) refl), missed (codes "low") s is bracket_words refl)
 unary_found operation word s IsUnary.high is =
     let no = missed (codes "high") s is (codes "not" ∷ codes "low" ∷ []) refl in
-    (no_is (at (codes "not") s) _ _ no.0 (no_is (at (codes "low") s) _ _ no.1.0 (yes_is (at (codes "high") s) _ _ (here (codes "high") s is) refl)), missed (codes "high") s is bracket_words refl)
+    (no_is (at (codes "not") s) _ _ no.0 (no_is (at (codes "low") s) _ _ no.1.0 (yes_is (at (codes "high") s) _ _ (at_its_token (codes "high") s is) refl)), missed (codes "high") s is bracket_words refl)
 
 abbrev unary_words : List (List ℕ)
 unary_words = codes "not" ∷ codes "low" ∷ codes "high" ∷ []
@@ -182,13 +182,13 @@ unfolding unary_at binary_at
 binary_found operation word s IsBinary.min is =
     let no = missed (codes "min") s is unary_words refl in (
       no_is (at (codes "not") s) _ _ no.0 (no_is (at (codes "low") s) _ _ no.1.0 (no_is (at (codes "high") s) _ _ no.1.1.0 refl)),
-      yes_is (at (codes "min") s) _ _ (here (codes "min") s is) refl,
+      yes_is (at (codes "min") s) _ _ (at_its_token (codes "min") s is) refl,
       missed (codes "min") s is bracket_words refl,
     )
 binary_found operation word s IsBinary.max is =
     let no = missed (codes "max") s is unary_words refl in (
       no_is (at (codes "not") s) _ _ no.0 (no_is (at (codes "low") s) _ _ no.1.0 (no_is (at (codes "high") s) _ _ no.1.1.0 refl)),
-      no_is (at (codes "min") s) _ _ (missed (codes "max") s is (codes "min" ∷ []) refl).0 (yes_is (at (codes "max") s) _ _ (here (codes "max") s is) refl),
+      no_is (at (codes "min") s) _ _ (missed (codes "max") s is (codes "min" ∷ []) refl).0 (yes_is (at (codes "max") s) _ _ (at_its_token (codes "max") s is) refl),
       missed (codes "max") s is bracket_words refl,
     )
 
@@ -199,31 +199,31 @@ no_comparison s h = no_is (at (codes "<") s) _ _ h.0 (no_is (at (codes "<=") s) 
 -- the operator of a comparison is none that goes on with a sum
 pub comparison_found : (operation : Binary) (word : List ℕ) (s : State) → IsComparison operation word → s.token ≡ word → (comparison_at s ≡ Some operation) × NotAt sum_ends s
 unfolding comparison_at
-comparison_found operation word s IsComparison.less is = (yes_is (at (codes "<") s) _ _ (here (codes "<") s is) refl, missed (codes "<") s is sum_ends refl)
+comparison_found operation word s IsComparison.less is = (yes_is (at (codes "<") s) _ _ (at_its_token (codes "<") s is) refl, missed (codes "<") s is sum_ends refl)
 comparison_found operation word s IsComparison.at_most is =
-    (no_is (at (codes "<") s) _ _ (missed (codes "<=") s is (codes "<" ∷ []) refl).0 (yes_is (at (codes "<=") s) _ _ (here (codes "<=") s is) refl), missed (codes "<=") s is sum_ends refl)
+    (no_is (at (codes "<") s) _ _ (missed (codes "<=") s is (codes "<" ∷ []) refl).0 (yes_is (at (codes "<=") s) _ _ (at_its_token (codes "<=") s is) refl), missed (codes "<=") s is sum_ends refl)
 comparison_found operation word s IsComparison.equal is =
     let no = missed (codes "=") s is (codes "<" ∷ codes "<=" ∷ []) refl in
-    (no_is (at (codes "<") s) _ _ no.0 (no_is (at (codes "<=") s) _ _ no.1.0 (yes_is (at (codes "=") s) _ _ (here (codes "=") s is) refl)), missed (codes "=") s is sum_ends refl)
+    (no_is (at (codes "<") s) _ _ no.0 (no_is (at (codes "<=") s) _ _ no.1.0 (yes_is (at (codes "=") s) _ _ (at_its_token (codes "=") s is) refl)), missed (codes "=") s is sum_ends refl)
 
 pub relation_found : (relation : Relation) (word : List ℕ) (s : State) → IsRelation relation word → s.token ≡ word → relation_at s ≡ Some relation
 unfolding relation_at
-relation_found relation word s IsRelation.within is = yes_is (at (codes "within") s) _ _ (here (codes "within") s is) refl
+relation_found relation word s IsRelation.within is = yes_is (at (codes "within") s) _ _ (at_its_token (codes "within") s is) refl
 relation_found relation word s IsRelation.covers is =
     let no = missed (codes "covers") s is (codes "within" ∷ []) refl in
-    no_is (at (codes "within") s) _ _ no.0 (yes_is (at (codes "covers") s) _ _ (here (codes "covers") s is) refl)
+    no_is (at (codes "within") s) _ _ no.0 (yes_is (at (codes "covers") s) _ _ (at_its_token (codes "covers") s is) refl)
 relation_found relation word s IsRelation.overlaps is =
     let no = missed (codes "overlaps") s is (codes "within" ∷ codes "covers" ∷ []) refl in
-    no_is (at (codes "within") s) _ _ no.0 (no_is (at (codes "covers") s) _ _ no.1.0 (yes_is (at (codes "overlaps") s) _ _ (here (codes "overlaps") s is) refl))
+    no_is (at (codes "within") s) _ _ no.0 (no_is (at (codes "covers") s) _ _ no.1.0 (yes_is (at (codes "overlaps") s) _ _ (at_its_token (codes "overlaps") s is) refl))
 relation_found relation word s IsRelation.is_less is =
     let no = missed (codes "less") s is (codes "within" ∷ codes "covers" ∷ codes "overlaps" ∷ []) refl in
-    no_is (at (codes "within") s) _ _ no.0 (no_is (at (codes "covers") s) _ _ no.1.0 (no_is (at (codes "overlaps") s) _ _ no.1.1.0 (yes_is (at (codes "less") s) _ _ (here (codes "less") s is) refl)))
+    no_is (at (codes "within") s) _ _ no.0 (no_is (at (codes "covers") s) _ _ no.1.0 (no_is (at (codes "overlaps") s) _ _ no.1.1.0 (yes_is (at (codes "less") s) _ _ (at_its_token (codes "less") s is) refl)))
 relation_found relation word s IsRelation.is_more is =
     let no = missed (codes "more") s is (codes "within" ∷ codes "covers" ∷ codes "overlaps" ∷ codes "less" ∷ []) refl in
-    no_is (at (codes "within") s) _ _ no.0 (no_is (at (codes "covers") s) _ _ no.1.0 (no_is (at (codes "overlaps") s) _ _ no.1.1.0 (no_is (at (codes "less") s) _ _ no.1.1.1.0 (yes_is (at (codes "more") s) _ _ (here (codes "more") s is) refl))))
+    no_is (at (codes "within") s) _ _ no.0 (no_is (at (codes "covers") s) _ _ no.1.0 (no_is (at (codes "overlaps") s) _ _ no.1.1.0 (no_is (at (codes "less") s) _ _ no.1.1.1.0 (yes_is (at (codes "more") s) _ _ (at_its_token (codes "more") s is) refl))))
 relation_found relation word s IsRelation.equals is =
     let no = missed (codes "is") s is (codes "within" ∷ codes "covers" ∷ codes "overlaps" ∷ codes "less" ∷ codes "more" ∷ []) refl in
-    no_is (at (codes "within") s) _ _ no.0 (no_is (at (codes "covers") s) _ _ no.1.0 (no_is (at (codes "overlaps") s) _ _ no.1.1.0 (no_is (at (codes "less") s) _ _ no.1.1.1.0 (no_is (at (codes "more") s) _ _ no.1.1.1.1.0 (yes_is (at (codes "is") s) _ _ (here (codes "is") s is) refl)))))
+    no_is (at (codes "within") s) _ _ no.0 (no_is (at (codes "covers") s) _ _ no.1.0 (no_is (at (codes "overlaps") s) _ _ no.1.1.0 (no_is (at (codes "less") s) _ _ no.1.1.1.0 (no_is (at (codes "more") s) _ _ no.1.1.1.1.0 (yes_is (at (codes "is") s) _ _ (at_its_token (codes "is") s is) refl)))))
 
 -- ---- variables
 
@@ -236,8 +236,8 @@ unfolding variable_at
 variable_at_found v s t (IsVariable.named {x = x} h) =
     let no = name_others s t x h (codes "it" ∷ codes "ev" ∷ []) its_reserved in
     (no_is (at (codes "it") s) _ _ no.0 (no_is (at (codes "ev") s) _ _ no.1.0 (ok_then _ (name_at_found s t x h) refl)), h.member.takes.next)
-variable_at_found v s t (IsVariable.it k) = (yes_is (at (codes "it") s) _ _ (here (codes "it") s k.is) refl, k.next)
-variable_at_found v s t (IsVariable.ev k) = (no_is (at (codes "it") s) _ _ (missed (codes "ev") s k.is (codes "it" ∷ []) refl).0 (yes_is (at (codes "ev") s) _ _ (here (codes "ev") s k.is) refl), k.next)
+variable_at_found v s t (IsVariable.it k) = (yes_is (at (codes "it") s) _ _ (at_its_token (codes "it") s k.is) refl, k.next)
+variable_at_found v s t (IsVariable.ev k) = (no_is (at (codes "it") s) _ _ (missed (codes "ev") s k.is (codes "it" ∷ []) refl).0 (yes_is (at (codes "ev") s) _ _ (at_its_token (codes "ev") s k.is) refl), k.next)
 
 pub variable_found : (v : Variable) (s t : State) → IsVariable v s t → variable s ≡ Ok (v, t)
 unfolding variable
@@ -259,7 +259,7 @@ atom_words = codes "-" ∷ codes "true" ∷ codes "false" ∷ []
 
 is_number : (i : ℤ) (s t : State) → IsInt i s t → (is_int s.kind || at (codes "-") s) ≡ true
 is_number i s t (IsInt.plain d) = rw (ap is_int d.kind) refl
-is_number i s t (IsInt.minus a d) = or_yes (is_int s.kind) (at (codes "-") s) (here (codes "-") s a.is)
+is_number i s t (IsInt.minus a d) = or_yes (is_int s.kind) (at (codes "-") s) (at_its_token (codes "-") s a.is)
 
 module _ (s t : State) where
   pub int_atom : (i : ℤ) → IsInt i s t → Stands s → atom_of s ≡ Ok (atoms.Int i, t)
@@ -281,12 +281,12 @@ module _ (s t : State) where
   pub true_atom : Takes (codes "true") s t → Stands s → atom_of s ≡ Ok (atoms.Bool true, t)
   true_atom k stands =
       other_atom (Ok (atoms.Bool true, t)) (no_int s stands (ap (first_passes is_digit) k.is)) (no_text s stands (ap (first_passes (λ b. b == 34)) k.is)) (missed (codes "true") s k.is (codes "-" ∷ []) refl).0
-      (yes_is (at (codes "true") s) _ _ (here (codes "true") s k.is) (ok_then _ (next_found s t k.next) refl))
+      (yes_is (at (codes "true") s) _ _ (at_its_token (codes "true") s k.is) (ok_then _ (next_found s t k.next) refl))
 
   pub false_atom : Takes (codes "false") s t → Stands s → atom_of s ≡ Ok (atoms.Bool false, t)
   false_atom k stands =
       other_atom (Ok (atoms.Bool false, t)) (no_int s stands (ap (first_passes is_digit) k.is)) (no_text s stands (ap (first_passes (λ b. b == 34)) k.is)) (missed (codes "false") s k.is (codes "-" ∷ []) refl).0
-      (no_is (at (codes "true") s) _ _ (missed (codes "false") s k.is (codes "true" ∷ []) refl).0 (yes_is (at (codes "false") s) _ _ (here (codes "false") s k.is) (ok_then _ (next_found s t k.next) refl)))
+      (no_is (at (codes "true") s) _ _ (missed (codes "false") s k.is (codes "true" ∷ []) refl).0 (yes_is (at (codes "false") s) _ _ (at_its_token (codes "false") s k.is) (ok_then _ (next_found s t k.next) refl)))
 
 -- what begins with a variable
 atom_words_free : none_pass is_free atom_words ≡ true
@@ -308,14 +308,14 @@ pub slot_atom : (unit : Variable) (x : List ℕ) (s t u v : State) → IsVariabl
 unfolding named
 slot_atom unit x s t u v a b c stands =
     named_atom unit s t (Ok (atoms.Slot unit x, v)) a stands
-    (ok_then _ (variable_found unit s t a) (yes_is (at (codes ".") t) _ _ (here (codes ".") t b.is) (ok_then _ (next_found t u b.next) (ok_then _ (member_found u v x c) refl))))
+    (ok_then _ (variable_found unit s t a) (yes_is (at (codes ".") t) _ _ (at_its_token (codes ".") t b.is) (ok_then _ (next_found t u b.next) (ok_then _ (member_found u v x c) refl))))
 
 pub label_atom : (set x : List ℕ) (s t u v : State) → IsName set s t → Takes (codes ":") t u → IsName x u v → Stands s → atom_of s ≡ Ok (atoms.Label set x, v)
 unfolding named label_or_variable
 label_atom set x s t u v a b c stands =
     named_atom (Named set) s t (Ok (atoms.Label set x, v)) (IsVariable.named a) stands
     (ok_then _ (variable_found (Named set) s t (IsVariable.named a)) (no_is (at (codes ".") t) _ _ (missed (codes ":") t b.is (codes "." ∷ []) refl).0
-    (yes_is (at (codes ":") t) _ _ (here (codes ":") t b.is) (ok_then _ (next_found t u b.next) (ok_then _ (name_found u v x c) refl)))))
+    (yes_is (at (codes ":") t) _ _ (at_its_token (codes ":") t b.is) (ok_then _ (next_found t u b.next) (ok_then _ (name_found u v x c) refl)))))
 
 alone : (v : Variable) (t : State) → at (codes ":") t ≡ false → label_or_variable v t ≡ Ok (atoms.Variable v, t)
 unfolding label_or_variable

@@ -5,23 +5,23 @@ use Rattle.bb_basis.specs.Results.{ok_or}
 use Rattle.bb_lang_tree.specs.declared.fault.LangFault.TheVariants.{Token}
 use Rattle.bb_lang_tree.specs.State.{State, Reader, at, left}
 use Rattle.bb_lang_tree.specs.Words.{is_reserved}
-use Rattle.bb_lang.specs.Atom.{Atom}
-use Rattle.bb_lang.specs.Variable.{Variable}
-use Rattle.bb_lang.specs.Unary.{Unary}
-use Rattle.bb_lang.specs.Binary.{Binary}
-use Rattle.bb_lang.specs.Binary.TheVariants as binaries
-use Rattle.bb_lang.specs.Relation.{Relation}
-use Rattle.bb_lang.specs.Step.{Step}
-use Rattle.bb_lang.specs.Sequence.{Sequence}
-use Rattle.bb_lang.specs.Sequence.TheVariants.{Find, Links}
-use Rattle.bb_lang.specs.Trees.{ExprTree, PatternTree, atom, unary, binary, size_of, all, and_of, or_of, not_of, test}
-use Rattle.bb_lang.specs.View.{sequence_of, patterns_of}
+use Rattle.bb_lang_tree.specs.declared.atom.Atom.{Atom}
+use Rattle.bb_lang_tree.specs.declared.atom.Variable.{Variable}
+use Rattle.bb_lang_tree.specs.declared.atom.Unary.{Unary}
+use Rattle.bb_lang_tree.specs.declared.atom.Binary.{Binary}
+use Rattle.bb_lang_tree.specs.declared.atom.Binary.TheVariants as binaries
+use Rattle.bb_lang_tree.specs.declared.atom.Relation.{Relation}
+use Rattle.bb_lang_tree.specs.declared.tree.Step.{Step}
+use Rattle.bb_lang_tree.specs.declared.tree.Sequence.{Sequence}
+use Rattle.bb_lang_tree.specs.declared.tree.Sequence.TheVariants.{Find, Links}
+use Rattle.bb_lang_tree.specs.Trees.{ExprTree, PatternTree, atom, unary, binary, size_of, all, and_of, or_of, not_of, test}
+use Rattle.bb_lang_tree.specs.View.{sequence_of, patterns_of}
 use Rattle.bb_lang.specs.Repeats.{repeated, as_many, next_item, items}
 use Rattle.bb_lang.specs.Expressions.{Inner, opened, chained, step, operator_at, division_at, chain_of, condition, found_in, linked_to, sequence, grouped, pair_of, interval, sized, unary_at, binary_at, atom_of, applied, factor, term, sum, comparison_at, compared, comparison, conjunction, expr_in, tested, parts, part, pattern_in}
 use Rattle.bb_theorem_grammar.specs.Tokens.{Next, Takes}
 use Rattle.bb_theorem_grammar.specs.Words.{IsMember, IsName}
 use Rattle.bb_theorem_grammar.specs.Expressions.{IsRelation, IsVariable}
-use Rattle.bb_theorem_grammar.proofs.FoundTokens.{next_found, yes_is, no_is, ok_then, here, skip_found, NotAt, none_pass, missed}
+use Rattle.bb_theorem_grammar.proofs.FoundTokens.{next_found, yes_is, no_is, ok_then, at_its_token, skip_found, NotAt, none_pass, missed}
 use Rattle.bb_theorem_grammar.proofs.FoundNames.{member_found, name_found, is_free, name_others}
 use Rattle.bb_theorem_grammar.proofs.FoundParts.{or_reader, and_reader, term_reader, fact_reader, part_words, bracket_words, no_unary, no_binary, relation_found, variable_found, variable_others}
 
@@ -105,17 +105,17 @@ module _ (i : Option Inner) where
 
   pub grouped_fact : (e : ExprTree) (s t v : State) → Takes (codes "(") s t → grouped i s ≡ Ok (e, v) → factor i s ≡ Ok (e, v)
   unfolding factor
-  grouped_fact e s t v k h = yes_is (at (codes "(") s) _ _ (here (codes "(") s k.is) h
+  grouped_fact e s t v k h = yes_is (at (codes "(") s) _ _ (at_its_token (codes "(") s k.is) h
 
   pub interval_fact : (l r : ExprTree) (s t x : State) → Takes (codes "[") s t → pair_of binaries.Interval (codes "[") (codes "]") i s ≡ Ok (binary binaries.Interval l r, x) → factor i s ≡ Ok (binary binaries.Interval l r, x)
   unfolding factor interval
-  interval_fact l r s t x k h = no_is (at (codes "(") s) _ _ (missed (codes "[") s k.is (codes "(" ∷ []) refl).0 (yes_is (at (codes "[") s) _ _ (here (codes "[") s k.is) h)
+  interval_fact l r s t x k h = no_is (at (codes "(") s) _ _ (missed (codes "[") s k.is (codes "(" ∷ []) refl).0 (yes_is (at (codes "[") s) _ _ (at_its_token (codes "[") s k.is) h)
 
   pub size_fact : (e : ExprTree) (s t w : State) → Takes (codes "size") s t → sized i s ≡ Ok (e, w) → factor i s ≡ Ok (e, w)
   unfolding factor
   size_fact e s t w k h =
       let others = missed (codes "size") s k.is (codes "(" ∷ codes "[" ∷ []) refl in
-      no_is (at (codes "(") s) _ _ others.0 (no_is (at (codes "[") s) _ _ others.1.0 (yes_is (at (codes "size") s) _ _ (here (codes "size") s k.is) h))
+      no_is (at (codes "(") s) _ _ others.0 (no_is (at (codes "[") s) _ _ others.1.0 (yes_is (at (codes "size") s) _ _ (at_its_token (codes "size") s k.is) h))
 
   pub other_fact : (e : ExprTree) (s v : State) → NotAt bracket_words s → applied (unary_at s) (binary_at s) i s ≡ Ok (e, v) → factor i s ≡ Ok (e, v)
   unfolding factor
@@ -140,27 +140,27 @@ module _ (i : Option Inner) where
 
   pub all_pat : (s t : State) → Takes (codes "all") s t → pattern_in i s ≡ Ok (all, t)
   unfolding pattern_in
-  all_pat s t k = yes_is (at (codes "all") s) _ _ (here (codes "all") s k.is) (ok_then _ (next_found s t k.next) refl)
+  all_pat s t k = yes_is (at (codes "all") s) _ _ (at_its_token (codes "all") s k.is) (ok_then _ (next_found s t k.next) refl)
 
   pub both_pat : (ps : List PatternTree) (s t v : State) → Takes (codes "and") s t → parts i t ≡ Ok (ps, v) → pattern_in i s ≡ Ok (and_of (patterns_of ps), v)
   unfolding pattern_in
   both_pat ps s t v k h =
       no_is (at (codes "all") s) _ _ (missed (codes "and") s k.is (codes "all" ∷ []) refl).0
-      (yes_is (at (codes "and") s) _ _ (here (codes "and") s k.is) (ok_then _ (next_found s t k.next) (ok_then _ h refl)))
+      (yes_is (at (codes "and") s) _ _ (at_its_token (codes "and") s k.is) (ok_then _ (next_found s t k.next) (ok_then _ h refl)))
 
   pub either_pat : (ps : List PatternTree) (s t v : State) → Takes (codes "or") s t → parts i t ≡ Ok (ps, v) → pattern_in i s ≡ Ok (or_of (patterns_of ps), v)
   unfolding pattern_in
   either_pat ps s t v k h =
       let others = missed (codes "or") s k.is (codes "all" ∷ codes "and" ∷ []) refl in
       no_is (at (codes "all") s) _ _ others.0 (no_is (at (codes "and") s) _ _ others.1.0
-      (yes_is (at (codes "or") s) _ _ (here (codes "or") s k.is) (ok_then _ (next_found s t k.next) (ok_then _ h refl))))
+      (yes_is (at (codes "or") s) _ _ (at_its_token (codes "or") s k.is) (ok_then _ (next_found s t k.next) (ok_then _ h refl))))
 
   pub neither_pat : (p : PatternTree) (s t v : State) → Takes (codes "not") s t → part i t ≡ Ok (p, v) → pattern_in i s ≡ Ok (not_of p, v)
   unfolding pattern_in
   neither_pat p s t v k h =
       let others = missed (codes "not") s k.is (codes "all" ∷ codes "and" ∷ codes "or" ∷ []) refl in
       no_is (at (codes "all") s) _ _ others.0 (no_is (at (codes "and") s) _ _ others.1.0 (no_is (at (codes "or") s) _ _ others.1.1.0
-      (yes_is (at (codes "not") s) _ _ (here (codes "not") s k.is) (ok_then _ (next_found s t k.next) (ok_then _ h refl)))))
+      (yes_is (at (codes "not") s) _ _ (at_its_token (codes "not") s k.is) (ok_then _ (next_found s t k.next) (ok_then _ h refl)))))
 
   pub tested_whole : (x : List ℕ) (relation : Relation) (word : List ℕ) (e : ExprTree) (s t u v : State) → IsName x s t → IsRelation relation word → Takes word t u → expr_in i u ≡ Ok (e, v) → tested (expr_in i) s ≡ Ok (test x relation e, v)
   unfolding tested
@@ -178,7 +178,7 @@ module _ (i : Option Inner) where
 module _ (pattern : Reader PatternTree) where
   pub where_found : (p : PatternTree) (s t u : State) → Takes (codes "where") s t → pattern t ≡ Ok (p, u) → condition pattern s ≡ Ok (p, u)
   unfolding condition
-  where_found p s t u k h = yes_is (at (codes "where") s) _ _ (here (codes "where") s k.is) (ok_then _ (next_found s t k.next) h)
+  where_found p s t u k h = yes_is (at (codes "where") s) _ _ (at_its_token (codes "where") s k.is) (ok_then _ (next_found s t k.next) h)
 
   pub anywhere_found : (s : State) → at (codes "where") s ≡ false → condition pattern s ≡ Ok (all, s)
   unfolding condition
@@ -188,7 +188,7 @@ module _ (pattern : Reader PatternTree) where
       → sequence pattern s ≡ Ok (Find class space p, x)
   unfolding sequence found_in
   find_found class space p s t u v w x a b c d h =
-      yes_is (at (codes "find") s) _ _ (here (codes "find") s a.is) (ok_then _ (skip_found (codes "find") s t a) (ok_then _ (name_found t u class b) (ok_then _ (skip_found (codes "in") u v c)
+      yes_is (at (codes "find") s) _ _ (at_its_token (codes "find") s a.is) (ok_then _ (skip_found (codes "find") s t a) (ok_then _ (name_found t u class b) (ok_then _ (skip_found (codes "in") u v c)
       (ok_then _ (name_found v w space d) (ok_then _ h refl)))))
 
   pub links_found : (unit : Variable) (x : List ℕ) (s t u v : State) → IsVariable unit s t → Takes (codes ".") t u → IsMember x u v → sequence pattern s ≡ Ok (Links unit x, v)
@@ -202,7 +202,7 @@ module _ (pattern : Reader PatternTree) where
 module _ {X : Type 0} (item : Reader X) where
   pub comma_found : (x : X) (s t u : State) → Takes (codes ",") s t → item t ≡ Ok (x, u) → next_item item s ≡ Ok (Some x, u)
   unfolding next_item
-  comma_found x s t u k h = yes_is (at (codes ",") s) _ _ (here (codes ",") s k.is) (ok_then _ (next_found s t k.next) (ok_then _ h refl))
+  comma_found x s t u k h = yes_is (at (codes ",") s) _ _ (at_its_token (codes ",") s k.is) (ok_then _ (next_found s t k.next) (ok_then _ h refl))
 
   pub no_comma_found : (s : State) → at (codes ",") s ≡ false → next_item item s ≡ Ok (None, s)
   unfolding next_item

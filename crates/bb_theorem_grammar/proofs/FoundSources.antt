@@ -7,15 +7,15 @@ use Rattle.std.proofs.lemmas.Bool.{lt-leb}
 use Rattle.bb_lang_tree.specs.declared.scan.TokenKind.{TokenKind}
 use Rattle.bb_lang_tree.specs.State.{State, before, at, left}
 use Rattle.bb_lang_tree.specs.Tokens.{is_end}
-use Rattle.bb_lang.specs.SourceText.{SourceText}
+use Rattle.bb_lang_tree.specs.declared.source_text.SourceText.{SourceText}
 use Rattle.bb_lang.specs.Repeats.{repeated, as_many}
 use Rattle.bb_lang.specs.Sources.{source_word, source_name, header, rating, source, next_source, sources_of}
 use Rattle.bb_lang.specs.declared.sources.TheConstants.{SOURCE_LIMIT}
 use Rattle.bb_theorem_grammar.specs.Tokens.{IsToken, Takes}
 use Rattle.bb_theorem_grammar.specs.Repeats.{AreMany}
 use Rattle.bb_theorem_grammar.specs.Sources.{with_source, NamesSource, IsRating, IsHeader, IsSource, IsFile}
-use Rattle.bb_theorem_grammar.proofs.SourceLemmas.{source_read, begins, stops}
-use Rattle.bb_theorem_grammar.proofs.FoundTokens.{next_found, yes_is, no_is, ok_then, here, skip_found, missed}
+use Rattle.bb_theorem_grammar.proofs.SourceLemmas.{source_read, source_has_token, stops}
+use Rattle.bb_theorem_grammar.proofs.FoundTokens.{next_found, yes_is, no_is, ok_then, at_its_token, skip_found, missed}
 use Rattle.bb_theorem_grammar.proofs.FoundNames.{Stands, free_found, name_found, int_found}
 use Rattle.bb_theorem_grammar.proofs.FoundParts.{none_found, more_found}
 use Rattle.bb_theorem_grammar.proofs.FoundActions.{ok_within}
@@ -25,7 +25,7 @@ use Rattle.bb_theorem_grammar.proofs.FoundClauses.{clauses_found, parts_found, a
 
 source_word_found : (s t : State) → length s.sources < SOURCE_LIMIT → Takes (codes "source") s t → source_word s ≡ Ok t
 unfolding source_word
-source_word_found s t few k = yes_is (at (codes "source") s) _ _ (here (codes "source") s k.is) (no_is (nat_le SOURCE_LIMIT (length s.sources)) _ _ (lt-leb SOURCE_LIMIT (length s.sources) few) (next_found s t k.next))
+source_word_found s t few k = yes_is (at (codes "source") s) _ _ (at_its_token (codes "source") s k.is) (no_is (nat_le SOURCE_LIMIT (length s.sources)) _ _ (lt-leb SOURCE_LIMIT (length s.sources) few) (next_found s t k.next))
 
 source_name_found : (x : List ℕ) (s t : State) → NamesSource x s t → source_name s ≡ Ok (x, t)
 unfolding source_name
@@ -65,16 +65,16 @@ is_ended rest kind token (IsToken.end a) none = refl
 
 one_source : (x : SourceText) (s t : State) → Stands s → IsSource x s t → next_source s ≡ Ok (Some x, t)
 unfolding next_source
-one_source x s t stands d = no_is (is_end s.kind) _ _ (not_end s.rest s.kind s.token stands (begins x s t d)) (ok_then _ (source_found x s t d) refl)
+one_source x s t stands d = no_is (is_end s.kind) _ _ (not_end s.rest s.kind s.token stands (source_has_token x s t d)) (ok_then _ (source_found x s t d) refl)
 
 no_source : (s : State) → Stands s → s.token ++ s.rest ≡ [] → next_source s ≡ Ok (None, s)
 unfolding next_source
 no_source s stands none = yes_is (is_end s.kind) _ _ (is_ended s.rest s.kind s.token stands none) refl
 
 source_more : (x : SourceText) (xs : List SourceText) (s t u : State) (k : ℕ) → left s ≤ k → Stands s → IsSource x s t → ((j : ℕ) → left t ≤ j → repeated j next_source t ≡ Ok (xs, u)) → repeated k next_source s ≡ Ok (x ∷ xs, u)
-source_more x xs s t u zero le stands d more = let some = begins x s t d in absurd (omega (arith, le, some))
+source_more x xs s t u zero le stands d more = let some = source_has_token x s t d in absurd (omega (arith, le, some))
 source_more x xs s t u (suc j) le stands d more =
-    let some = begins x s t d in
+    let some = source_has_token x s t d in
     let later = (source_read s).later x t (source_found x s t d) in
     more_found next_source s t u x xs j (one_source x s t stands d) (more j (omega (arith, le, some, later)))
 

@@ -5,12 +5,12 @@ use Rattle.bb_basis.specs.Results.{◌>>=◌}
 use Rattle.bb_basis.proofs.ResultLemmas.{same_ok}
 use Rattle.bb_lang_tree.specs.declared.fault.LangFault.{LangFault}
 use Rattle.bb_lang_tree.specs.State.{State, Reader, at, left}
-use Rattle.bb_lang.specs.Action.{Action}
-use Rattle.bb_lang.specs.Binding.{Binding}
-use Rattle.bb_lang.specs.Sequence.{Sequence}
-use Rattle.bb_lang.specs.Trees.{ExprTree}
-use Rattle.bb_lang.specs.Blocks.{BlockTree, StatementTree, OtherwiseTree, no_statement, before_others, action, if_of, with_of, for_of, absent, otherwise}
-use Rattle.bb_lang.specs.BlockView.{otherwise_of, statement_of, block_of}
+use Rattle.bb_lang_tree.specs.declared.block.Action.{Action}
+use Rattle.bb_lang_tree.specs.declared.block.Binding.{Binding}
+use Rattle.bb_lang_tree.specs.declared.tree.Sequence.{Sequence}
+use Rattle.bb_lang_tree.specs.Trees.{ExprTree}
+use Rattle.bb_lang_tree.specs.Blocks.{BlockTree, StatementTree, OtherwiseTree, no_statement, before_others, action, if_of, with_of, for_of, absent, otherwise}
+use Rattle.bb_lang_tree.specs.BlockView.{otherwise_of, statement_of, block_of}
 use Rattle.bb_lang.specs.Repeats.{repeated, as_many}
 use Rattle.bb_lang.specs.Expressions.{expr, pattern, sequence}
 use Rattle.bb_lang.specs.Statements.{plain, leave_scope, otherwise_in, if_in, bound, binding, with_in, for_in, statement_in, next_statement, block}
@@ -21,7 +21,7 @@ use Rattle.bb_theorem_grammar.specs.Expressions.{Opens}
 use Rattle.bb_theorem_grammar.specs.Actions.{IsAction}
 use Rattle.bb_theorem_grammar.specs.Statements.{IsBinding, IsStatement, IsElse, IsBlock, AreStatements}
 use Rattle.bb_theorem_grammar.proofs.StatementLemmas.{statement_read, block_read}
-use Rattle.bb_theorem_grammar.proofs.FoundTokens.{next_found, yes_is, no_is, ok_then, here, skip_found, NotAt, missed}
+use Rattle.bb_theorem_grammar.proofs.FoundTokens.{next_found, yes_is, no_is, ok_then, at_its_token, skip_found, NotAt, missed}
 use Rattle.bb_theorem_grammar.proofs.FoundNames.{member_found, name_found, declared_found}
 use Rattle.bb_theorem_grammar.proofs.FoundParts.{expr_ends, seq_ends, none_found, more_found, variable_found}
 use Rattle.bb_theorem_grammar.proofs.FoundExpressions.{expr_found, seq_found}
@@ -65,7 +65,7 @@ binding_found : (b : Binding) (s t : State) → IsBinding b s t → binding s �
 unfolding binding bound
 binding_found b s t (IsBinding.as_class {x = x} {class = class} {unit = unit} {t = t1} {u = u} {v = v} {w = w} a c d k e) =
     ok_then _ (declared_found s t1 x a) (ok_then _ (skip_found (codes "=") t1 u c) (ok_then _ (variable_found unit u v d)
-    (yes_is (at (codes "as") v) _ _ (here (codes "as") v k.is) (ok_then _ (next_found v w k.next) (ok_then _ (name_found w t class e) refl)))))
+    (yes_is (at (codes "as") v) _ _ (at_its_token (codes "as") v k.is) (ok_then _ (next_found v w k.next) (ok_then _ (name_found w t class e) refl)))))
 binding_found b s t (IsBinding.linked_by {x = x} {by = by} {unit = unit} {t = t1} {u = u} {v = v} {w = w} a c d k e) =
     ok_then _ (declared_found s t1 x a) (ok_then _ (skip_found (codes "=") t1 u c) (ok_then _ (variable_found unit u v d)
     (no_is (at (codes "as") v) _ _ (missed (codes ".") v k.is (codes "as" ∷ []) refl).0 (ok_then _ (skip_found (codes ".") v w k) (ok_then _ (member_found w t by e) refl)))))
@@ -105,13 +105,13 @@ module _ (n m : ℕ) (lim : n + m ≡ NESTING_LIMIT) (block : Reader BlockTree) 
 
   else_whole : (b : BlockTree) (s t u : State) → Takes (codes "else") s t → block t ≡ Ok (b, u) → seen otherwise_of (otherwise_in block s) ≡ Ok (otherwise b, u)
   unfolding otherwise_in
-  else_whole b s t u k h = yes_seen otherwise_of (at (codes "else") s) _ _ (here (codes "else") s k.is) (ok_seen otherwise_of _ (next_found s t k.next) (ok_seen otherwise_of _ h refl))
+  else_whole b s t u k h = yes_seen otherwise_of (at (codes "else") s) _ _ (at_its_token (codes "else") s k.is) (ok_seen otherwise_of _ (next_found s t k.next) (ok_seen otherwise_of _ h refl))
 
   if_whole : (e : ExprTree) (b : BlockTree) (o : OtherwiseTree) (s t u v w : State) → Takes (codes "if") s t → expr m t ≡ Ok (e, u) → block u ≡ Ok (b, v) → WasRead otherwise_of (otherwise_in block v) o w
       → seen statement_of (statement_in m block s) ≡ Ok (if_of e b o, w)
   unfolding statement_in if_in
   if_whole e b o s t u v w k h g d =
-      yes_seen statement_of (at (codes "if") s) _ _ (here (codes "if") s k.is) (ok_seen statement_of _ (next_found s t k.next) (ok_seen statement_of _ h (ok_seen statement_of _ g (ok_seen statement_of _ d.is
+      yes_seen statement_of (at (codes "if") s) _ _ (at_its_token (codes "if") s k.is) (ok_seen statement_of _ (next_found s t k.next) (ok_seen statement_of _ h (ok_seen statement_of _ g (ok_seen statement_of _ d.is
       (ap (λ x. Ok (if_of e b x, w)) d.view_is)))))
 
   with_whole : (found : Binding) (b : BlockTree) (o : OtherwiseTree) (s t u v w : State) → Takes (codes "with") s t → IsBinding found t u → block u ≡ Ok (b, v) → WasRead otherwise_of (otherwise_in block (leave_scope s v)) o w
@@ -119,7 +119,7 @@ module _ (n m : ℕ) (lim : n + m ≡ NESTING_LIMIT) (block : Reader BlockTree) 
   unfolding statement_in with_in
   with_whole found b o s t u v w k h g d =
       no_seen statement_of (at (codes "if") s) _ _ (missed (codes "with") s k.is (codes "if" ∷ []) refl).0
-      (yes_seen statement_of (at (codes "with") s) _ _ (here (codes "with") s k.is) (ok_seen statement_of _ (next_found s t k.next) (ok_seen statement_of _ (binding_found found t u h) (ok_seen statement_of _ g (ok_seen statement_of _ d.is
+      (yes_seen statement_of (at (codes "with") s) _ _ (at_its_token (codes "with") s k.is) (ok_seen statement_of _ (next_found s t k.next) (ok_seen statement_of _ (binding_found found t u h) (ok_seen statement_of _ g (ok_seen statement_of _ d.is
       (ap (λ x. Ok (with_of found b x, w)) d.view_is))))))
 
   for_whole : (x : List ℕ) (q : Sequence) (b : BlockTree) (s t u v w y : State) → Takes (codes "for") s t → Declares x t u → Takes (codes "in") u v → sequence (pattern m) v ≡ Ok (q, w) → block w ≡ Ok (b, y)
@@ -128,14 +128,14 @@ module _ (n m : ℕ) (lim : n + m ≡ NESTING_LIMIT) (block : Reader BlockTree) 
   for_whole x q b s t u v w y k d c h g =
       let others = missed (codes "for") s k.is (codes "if" ∷ codes "with" ∷ []) refl in
       no_seen statement_of (at (codes "if") s) _ _ others.0 (no_seen statement_of (at (codes "with") s) _ _ others.1.0
-      (yes_seen statement_of (at (codes "for") s) _ _ (here (codes "for") s k.is) (ok_seen statement_of _ (next_found s t k.next) (ok_seen statement_of _ (declared_found t u x d)
+      (yes_seen statement_of (at (codes "for") s) _ _ (at_its_token (codes "for") s k.is) (ok_seen statement_of _ (next_found s t k.next) (ok_seen statement_of _ (declared_found t u x d)
       (ok_seen statement_of _ (skip_found (codes "in") u v c) (ok_seen statement_of _ h (ok_seen statement_of _ g refl)))))))
 
   -- ---- as many as come
 
   ended : (s : State) → s.token ≡ codes "}" → next_statement m block s ≡ Ok (None, s)
   unfolding next_statement
-  ended s is = yes_is (at (codes "}") s) _ _ (here (codes "}") s is) refl
+  ended s is = yes_is (at (codes "}") s) _ _ (at_its_token (codes "}") s is) refl
 
   none_whole : (s : State) → s.token ≡ codes "}" → (k : ℕ) → seen block_of (repeated k (next_statement m block) s) ≡ Ok (no_statement, s)
   none_whole s is k = ap (seen block_of) (none_found (next_statement m block) s (ended s is) k)

@@ -163,12 +163,12 @@ next_found s t n =
 pub ok_then : {A B E : Type 0} {r : Result A E} {x : A} {y : Result B E} (k : A → Result B E) → r ≡ Ok x → k x ≡ y → (r >>= k) ≡ y
 ok_then k e h = ap (λ r. r >>= k) e ∙ h
 
-pub here : (word : List ℕ) (s : State) → s.token ≡ word → at word s ≡ true
-here word s is = (bytes_eq-Decides s.token word).1 is
+pub at_its_token : (word : List ℕ) (s : State) → s.token ≡ word → at word s ≡ true
+at_its_token word s is = (bytes_eq-Decides s.token word).1 is
 
 pub skip_found : (word : List ℕ) (s t : State) → Takes word s t → skip word s ≡ Ok t
 unfolding skip
-skip_found word s t h = yes_is (at word s) _ _ (here word s h.is) (next_found s t h.next)
+skip_found word s t h = yes_is (at word s) _ _ (at_its_token word s h.is) (next_found s t h.next)
 
 -- ---- other words
 
@@ -198,4 +198,4 @@ others p s pass (w ∷ ws) h =
 
 -- a word is none of other words
 pub missed : (word : List ℕ) (s : State) → s.token ≡ word → (ws : List (List ℕ)) → none_pass (λ x. bytes_eq x word) ws ≡ true → NotAt ws s
-missed word s is ws h = others (λ x. bytes_eq x word) s (here word s is) ws h
+missed word s is ws h = others (λ x. bytes_eq x word) s (at_its_token word s is) ws h

@@ -4,7 +4,7 @@ use Rattle.std.specs.Prelude.{IfOk, IfErr}
 use Rattle.bb_basis.specs.Results.{Gives}
 use Rattle.bb_lang_tree.specs.declared.fault.LangFault.{LangFault}
 use Rattle.bb_lang_tree.specs.declared.fault.LangFault.TheVariants.{Memory}
-use Rattle.bb_lang.specs.SourceText.{SourceText}
+use Rattle.bb_lang_tree.specs.declared.source_text.SourceText.{SourceText}
 use Rattle.bb_lang.specs.Sources.{sources_of}
 use Rattle.bb_theorem_grammar.specs.Sources.{IsFile}
 use Rattle.bb_theorem_grammar.proofs.SourceLemmas.{file_read}

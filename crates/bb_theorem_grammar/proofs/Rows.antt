@@ -3,17 +3,17 @@ use Rattle.std.proofs.Common.{◌≡◌, refl, subst, ℕ, List, [], ◌∷◌, 
 use Rattle.std.specs.Prelude.{pos, negsuc}
 use Rattle.bb_basis.specs.Results.{◌>>=◌}
 use Rattle.bb_basis.proofs.ResultLemmas.{bind_ok, same_ok}
-use Rattle.bb_lang.specs.ActText.TheVariants.{Do, Native}
-use Rattle.bb_lang.specs.ClauseText.TheVariants.{Change, Quiescence}
-use Rattle.bb_lang.specs.ChangeText.TheVariants.{Update}
-use Rattle.bb_lang.specs.Action.TheVariants as actions
-use Rattle.bb_lang.specs.Blocks.{no_statement, before_others, action}
+use Rattle.bb_lang_tree.specs.declared.source_text.ActText.TheVariants.{Do, Native}
+use Rattle.bb_lang_tree.specs.declared.source_text.ClauseText.TheVariants.{Change, Quiescence}
+use Rattle.bb_lang_tree.specs.declared.source_text.ChangeText.TheVariants.{Update}
+use Rattle.bb_lang_tree.specs.declared.block.Action.TheVariants as actions
+use Rattle.bb_lang_tree.specs.Blocks.{no_statement, before_others, action}
 use Rattle.bb_lang.specs.Statements.{action_of, let_of, say_of, plain, statement_in, next_statement, block}
-use Rattle.bb_lang.specs.SourceText.{SourceText}
-use Rattle.bb_lang.specs.Atom.TheVariants as atoms
-use Rattle.bb_lang.specs.Variable.TheVariants.{It, Named}
-use Rattle.bb_lang.specs.Operator.TheVariants.{Plus, Times}
-use Rattle.bb_lang.specs.Trees.{ExprTree, atom, chain, no_step, apply}
+use Rattle.bb_lang_tree.specs.declared.source_text.SourceText.{SourceText}
+use Rattle.bb_lang_tree.specs.declared.atom.Atom.TheVariants as atoms
+use Rattle.bb_lang_tree.specs.declared.atom.Variable.TheVariants.{It, Named}
+use Rattle.bb_lang_tree.specs.declared.atom.Operator.TheVariants.{Plus, Times}
+use Rattle.bb_lang_tree.specs.Trees.{ExprTree, atom, chain, no_step, apply}
 use Rattle.bb_lang.specs.Repeats.{more_after, repeated, as_many, next_item, items}
 use Rattle.bb_lang.specs.Expressions.{variable_at, variable, label_or_variable, named, atom_of, unary_at, binary_at, comparison_at, operator_at, division_at, step_by, step, chain_of, applied, factor, term, sum, compared, comparison, conjunction, expr_in, inside, expr}
 use Rattle.bb_lang.specs.Sources.{slot_event, change_event, part, event, clause, next_clause, clauses, part_if, reaction_if, parts, act, source_word, source_name, header, rating, source, next_source, sources_of}

@@ -12,7 +12,7 @@ use Rattle.bb_lang_tree.specs.declared.scan.TokenKind.{TokenKind}
 use Rattle.bb_lang_tree.specs.State.{State, before, next, at, left}
 use Rattle.bb_lang_tree.specs.Tokens.{is_end}
 use Rattle.bb_lang_tree.specs.Words.{name_at, is_reserved}
-use Rattle.bb_lang.specs.SourceText.{SourceText}
+use Rattle.bb_lang_tree.specs.declared.source_text.SourceText.{SourceText}
 use Rattle.bb_lang.specs.Repeats.{more_after, repeated, as_many}
 use Rattle.bb_lang.specs.Sources.{source_word, source_name, header, rating, source, next_source, sources_of}
 use Rattle.bb_lang.specs.declared.sources.TheConstants.{SOURCE_LIMIT}
@@ -74,8 +74,8 @@ source_read s = by_read _ (header_read s) (λ h t a. by_move _ (skip_moves (code
 
 -- ---- as many as come
 
-pub begins : (x : SourceText) (s t : State) → IsSource x s t → 0 < length s.token
-begins x s t (IsSource.source (IsHeader.header few word named on_at on class) opens cs rate ps a closes) = let six : length s.token ≡ 6 = ap length word.is in omega (arith, six)
+pub source_has_token : (x : SourceText) (s t : State) → IsSource x s t → 0 < length s.token
+source_has_token x s t (IsSource.source (IsHeader.header few word named on_at on class) opens cs rate ps a closes) = let six : length s.token ≡ 6 = ap length word.is in omega (arith, six)
 
 pub stops : (x : SourceText) (s t : State) → IsSource x s t → IsToken t.rest t.kind t.token
 stops x s t (IsSource.source head opens cs rate ps a closes) = closes.next.is_token
@@ -134,7 +134,7 @@ sources_by n rest s xs t false is le token h =
     let u = one.0.1 in
     let there = (source_read s).holds x u one.1 in
     let later = (source_read s).later x u one.1 in
-    let first = begins x s u there in
+    let first = source_has_token x s u there in
     let same : (let p : Option SourceText × State = (Some x, u) in p) ≡ two.0 = same_ok {E = LangFault} (Some x, u) two.0 one.2 in
     let behind_it : others n (Some x, u) ≡ Ok (xs, t) = subst (λ p. others n p ≡ Ok (xs, t)) (sym same) two.2 in
     let three = bind_ok (repeated n next_source u) (before_others x) (xs, t) behind_it in

@@ -2,10 +2,10 @@
 use Rattle.std.proofs.Common.{◌≡◌, ◌+◌, ℕ, zero, suc, true, List, refl, codes, arith}
 use Rattle.bb_lang_tree.specs.declared.fault.LangFault.TheVariants.{Token, Nesting}
 use Rattle.bb_lang_tree.specs.State.{State, Reader, at}
-use Rattle.bb_lang.specs.Variable.{Variable}
-use Rattle.bb_lang.specs.Placed.{Placed}
-use Rattle.bb_lang.specs.Blocks.{BlockTree}
-use Rattle.bb_lang.specs.BlockView.{otherwise_of, statement_of, block_of}
+use Rattle.bb_lang_tree.specs.declared.atom.Variable.{Variable}
+use Rattle.bb_lang_tree.specs.declared.block.Placed.{Placed}
+use Rattle.bb_lang_tree.specs.Blocks.{BlockTree}
+use Rattle.bb_lang_tree.specs.BlockView.{otherwise_of, statement_of, block_of}
 use Rattle.bb_lang.specs.Expressions.{pattern, inside}
 use Rattle.bb_lang.specs.Repeats.{as_many}
 use Rattle.bb_lang.specs.Statements.{plain, leave_scope, otherwise_in, if_in, bound, binding, with_in, for_in, statement_in, next_statement, block}

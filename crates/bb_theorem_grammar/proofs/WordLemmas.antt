@@ -1,8 +1,8 @@
 -- Words and symbols of operations.
 use Rattle.std.proofs.Common.{◌≡◌, Bool, true, false, cond, List, ℕ, Option, Some, None, refl, subst, codes}
-use Rattle.bb_lang.specs.Unary.TheVariants as unaries
-use Rattle.bb_lang.specs.Binary.TheVariants as binaries
-use Rattle.bb_lang.specs.Relation.TheVariants as relations
+use Rattle.bb_lang_tree.specs.declared.atom.Unary.TheVariants as unaries
+use Rattle.bb_lang_tree.specs.declared.atom.Binary.TheVariants as binaries
+use Rattle.bb_lang_tree.specs.declared.atom.Relation.TheVariants as relations
 use Rattle.bb_lang_tree.specs.State.{State, at}
 use Rattle.bb_lang.specs.Expressions.{unary_at, binary_at, comparison_at, relation_at}
 use Rattle.bb_theorem_grammar.specs.Expressions.{IsUnary, IsBinary, IsComparison, IsRelation}

@@ -1,9 +1,9 @@
 -- The grammar of statements without blocks, up to their ";".
 use Rattle.std.specs.Prelude.{ℕ, List, codes}
-use Rattle.bb_lang.specs.Variable.{Variable}
-use Rattle.bb_lang.specs.Action.{Action}
-use Rattle.bb_lang.specs.Action.TheVariants as actions
-use Rattle.bb_lang.specs.Trees.{ExprTree}
+use Rattle.bb_lang_tree.specs.declared.atom.Variable.{Variable}
+use Rattle.bb_lang_tree.specs.declared.block.Action.{Action}
+use Rattle.bb_lang_tree.specs.declared.block.Action.TheVariants as actions
+use Rattle.bb_lang_tree.specs.Trees.{ExprTree}
 use Rattle.bb_lang_tree.specs.State.{State}
 use Rattle.bb_theorem_grammar.specs.Tokens.{Takes}
 use Rattle.bb_theorem_grammar.specs.Words.{IsName, IsMember, Declares}

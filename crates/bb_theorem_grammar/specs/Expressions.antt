@@ -1,23 +1,23 @@
 -- The grammar of expressions, sequences and patterns: a family for each production, a constructor for each of its
 -- alternatives. `IsExpr n e s t`: the expression e reaches from s to t, with n brackets open.
 use Rattle.std.specs.Prelude.{◌<◌, ℕ, suc, ℤ, true, false, List, [], ◌∷◌, codes}
-use Rattle.bb_lang.specs.Atom.TheVariants as atoms
-use Rattle.bb_lang.specs.Variable.{Variable}
-use Rattle.bb_lang.specs.Variable.TheVariants.{It, Ev, Named}
-use Rattle.bb_lang.specs.Unary.{Unary}
-use Rattle.bb_lang.specs.Unary.TheVariants as unaries
-use Rattle.bb_lang.specs.Binary.{Binary}
-use Rattle.bb_lang.specs.Binary.TheVariants as binaries
-use Rattle.bb_lang.specs.Operator.TheVariants as operators
-use Rattle.bb_lang.specs.Division.TheVariants.{Quotient, Remainder}
-use Rattle.bb_lang.specs.Relation.{Relation}
-use Rattle.bb_lang.specs.Relation.TheVariants as relations
-use Rattle.bb_lang.specs.Step.{Step}
-use Rattle.bb_lang.specs.Step.TheVariants.{Apply, Divide}
-use Rattle.bb_lang.specs.Sequence.{Sequence}
-use Rattle.bb_lang.specs.Sequence.TheVariants.{Find, Links}
-use Rattle.bb_lang.specs.Trees.{ExprTree, PatternTree, atom, unary, binary, size_of, all, and_of, or_of, not_of, test}
-use Rattle.bb_lang.specs.View.{sequence_of, patterns_of}
+use Rattle.bb_lang_tree.specs.declared.atom.Atom.TheVariants as atoms
+use Rattle.bb_lang_tree.specs.declared.atom.Variable.{Variable}
+use Rattle.bb_lang_tree.specs.declared.atom.Variable.TheVariants.{It, Ev, Named}
+use Rattle.bb_lang_tree.specs.declared.atom.Unary.{Unary}
+use Rattle.bb_lang_tree.specs.declared.atom.Unary.TheVariants as unaries
+use Rattle.bb_lang_tree.specs.declared.atom.Binary.{Binary}
+use Rattle.bb_lang_tree.specs.declared.atom.Binary.TheVariants as binaries
+use Rattle.bb_lang_tree.specs.declared.atom.Operator.TheVariants as operators
+use Rattle.bb_lang_tree.specs.declared.atom.Division.TheVariants.{Quotient, Remainder}
+use Rattle.bb_lang_tree.specs.declared.atom.Relation.{Relation}
+use Rattle.bb_lang_tree.specs.declared.atom.Relation.TheVariants as relations
+use Rattle.bb_lang_tree.specs.declared.tree.Step.{Step}
+use Rattle.bb_lang_tree.specs.declared.tree.Step.TheVariants.{Apply, Divide}
+use Rattle.bb_lang_tree.specs.declared.tree.Sequence.{Sequence}
+use Rattle.bb_lang_tree.specs.declared.tree.Sequence.TheVariants.{Find, Links}
+use Rattle.bb_lang_tree.specs.Trees.{ExprTree, PatternTree, atom, unary, binary, size_of, all, and_of, or_of, not_of, test}
+use Rattle.bb_lang_tree.specs.View.{sequence_of, patterns_of}
 use Rattle.bb_lang.specs.Expressions.{chained}
 use Rattle.bb_lang.specs.declared.sources.TheConstants.{NESTING_LIMIT}
 use Rattle.bb_lang_tree.specs.State.{State}

@@ -3,16 +3,16 @@ use Rattle.std.specs.Prelude.{◌≡◌, ◌<◌, ℕ, ℤ, true, false, List, [
 use Rattle.std.specs.List.{list_any}
 use Rattle.std.specs.Str.{bytes_eq}
 use Rattle.bb_basis.specs.Names.{is_name}
-use Rattle.bb_lang.specs.ActText.{ActText}
-use Rattle.bb_lang.specs.ActText.TheVariants.{Do, Native}
-use Rattle.bb_lang.specs.ChangeText.TheVariants.{Create, Delete, Update, Link, Unlink, Enter, Leave}
-use Rattle.bb_lang.specs.ClauseText.{ClauseText}
-use Rattle.bb_lang.specs.ClauseText.TheVariants.{Change, Quiescence}
-use Rattle.bb_lang.specs.PartText.{PartText}
-use Rattle.bb_lang.specs.PartTexts.{PartTexts}
-use Rattle.bb_lang.specs.ReactionText.{ReactionText}
-use Rattle.bb_lang.specs.SourceText.{SourceText}
-use Rattle.bb_lang.specs.Blocks.{BlockTree}
+use Rattle.bb_lang_tree.specs.declared.source_text.ActText.{ActText}
+use Rattle.bb_lang_tree.specs.declared.source_text.ActText.TheVariants.{Do, Native}
+use Rattle.bb_lang_tree.specs.declared.source_text.ChangeText.TheVariants.{Create, Delete, Update, Link, Unlink, Enter, Leave}
+use Rattle.bb_lang_tree.specs.declared.source_text.ClauseText.{ClauseText}
+use Rattle.bb_lang_tree.specs.declared.source_text.ClauseText.TheVariants.{Change, Quiescence}
+use Rattle.bb_lang_tree.specs.declared.source_text.PartText.{PartText}
+use Rattle.bb_lang_tree.specs.declared.source_text.PartTexts.{PartTexts}
+use Rattle.bb_lang_tree.specs.declared.source_text.ReactionText.{ReactionText}
+use Rattle.bb_lang_tree.specs.declared.source_text.SourceText.{SourceText}
+use Rattle.bb_lang_tree.specs.Blocks.{BlockTree}
 use Rattle.bb_lang.specs.declared.sources.TheConstants.{SOURCE_LIMIT}
 use Rattle.bb_lang_tree.specs.declared.scan.TokenKind.TheVariants as kinds
 use Rattle.bb_lang_tree.specs.declared.place.Place.{Place}

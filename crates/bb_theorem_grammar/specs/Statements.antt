@@ -1,12 +1,12 @@
 -- The grammar of statements and blocks.
 use Rattle.std.specs.Prelude.{ℕ, suc, List, codes}
-use Rattle.bb_lang.specs.Variable.{Variable}
-use Rattle.bb_lang.specs.Action.{Action}
-use Rattle.bb_lang.specs.Binding.{Binding}
-use Rattle.bb_lang.specs.Binding.TheVariants.{As, Linked}
-use Rattle.bb_lang.specs.Sequence.{Sequence}
-use Rattle.bb_lang.specs.Trees.{ExprTree}
-use Rattle.bb_lang.specs.Blocks.{BlockTree, StatementTree, OtherwiseTree, no_statement, before_others, action, if_of, with_of, for_of, absent, otherwise}
+use Rattle.bb_lang_tree.specs.declared.atom.Variable.{Variable}
+use Rattle.bb_lang_tree.specs.declared.block.Action.{Action}
+use Rattle.bb_lang_tree.specs.declared.block.Binding.{Binding}
+use Rattle.bb_lang_tree.specs.declared.block.Binding.TheVariants.{As, Linked}
+use Rattle.bb_lang_tree.specs.declared.tree.Sequence.{Sequence}
+use Rattle.bb_lang_tree.specs.Trees.{ExprTree}
+use Rattle.bb_lang_tree.specs.Blocks.{BlockTree, StatementTree, OtherwiseTree, no_statement, before_others, action, if_of, with_of, for_of, absent, otherwise}
 use Rattle.bb_lang.specs.Statements.{leave_scope}
 use Rattle.bb_lang_tree.specs.State.{State}
 use Rattle.bb_theorem_grammar.specs.Tokens.{Takes}

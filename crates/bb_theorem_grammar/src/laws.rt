@@ -1,7 +1,7 @@
 //! Theorems about the trees of a text: what `parse` (bb_lang) returns is what the grammar gives. No code calls them.
 
 ghost use Rattle.std.specs.Prelude.{◌≡◌, ℕ, List, Ok};
-ghost use Rattle.bb_lang.specs.SourceText.{SourceText};
+ghost use Rattle.bb_lang_tree.specs.declared.source_text.SourceText.{SourceText};
 ghost use Rattle.bb_lang.specs.Sources.{sources_of};
 ghost use Rattle.bb_theorem_grammar.specs.Tokens.{IsCut};
 ghost use Rattle.bb_theorem_grammar.specs.Sources.{IsFile};

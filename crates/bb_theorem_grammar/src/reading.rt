@@ -2,10 +2,11 @@
 
 ghost use Rattle.std.specs.Prelude.{◌≡◌, ◌⊎◌, List, IfOk, IfErr};
 ghost use Rattle.bb_lang_tree.specs.declared.fault.LangFault.TheVariants.{Memory as OutOfMemory};
-ghost use Rattle.bb_lang.specs.SourceText.{SourceText as Tree};
+ghost use Rattle.bb_lang_tree.specs.declared.source_text.SourceText.{SourceText as Tree};
 ghost use Rattle.bb_theorem_grammar.specs.Sources.{IsFile};
 
-use bb_lang::{LangFault, SourceText, parse};
+use bb_lang::parse;
+use bb_lang_tree::{LangFault, SourceText};
 use std::alloc::Global;
 
 /// Returns the sources of a text, in its order, as `parse` does.

@@ -8,7 +8,7 @@ use Rattle.bb_basis.specs.Names.{is_name}
 use Rattle.bb_basis.specs.Results.{◌>>=◌, ok_or}
 use Rattle.bb_code.specs.Code.{Code}
 use Rattle.bb_schema.specs.Fits.{Fits}
-use Rattle.bb_verify_effect.specs.Schema.{Schema, class_named}
+use Rattle.bb_schema.specs.Schema.{Schema, class_named}
 use Rattle.bb_verify_effect.specs.declared.part.Part.{Part}
 use Rattle.bb_verify_effect.specs.declared.part.Part.TheVariants.{Require, Obviate, Retrigger, Revalidate, Do}
 use Rattle.bb_lang.specs.ActText.{ActText}
@@ -59,15 +59,15 @@ either_on : (fault : CompileFault) (ps qs : List Extent) (xs ys : List CompileFa
 either_on fault ps qs xs ys (inl h) = inl (first_on fault xs ys h)
 either_on fault ps qs xs ys (inr h) = inr (large_on fault ps qs h)
 
-behind : {X : Type 0} (ps qs : List Extent) (ys : List CompileFault) (Q : X → Type 0) (r : Result X CompileFault) → Agree qs ys Q r → Agree (ps ++ qs) ys Q r
-behind ps qs ys Q (Ok x) h = h
-behind ps qs ys Q (Err fault) (inl h) = inl h
-behind ps qs ys Q (Err fault) (inr h) = inr (large_behind fault ps qs h)
+agree_after : {X : Type 0} (ps qs : List Extent) (ys : List CompileFault) (Q : X → Type 0) (r : Result X CompileFault) → Agree qs ys Q r → Agree (ps ++ qs) ys Q r
+agree_after ps qs ys Q (Ok x) h = h
+agree_after ps qs ys Q (Err fault) (inl h) = inl h
+agree_after ps qs ys Q (Err fault) (inr h) = inr (large_behind fault ps qs h)
 
 agree_then : {X Z : Type 0} (ps qs : List Extent) (xs ys : List CompileFault) (P : X → Type 0) (Q : Z → Type 0) (r : Result X CompileFault) (f : X → Result Z CompileFault)
     → Agree ps xs P r → ((x : X) → P x → Agree qs ys Q (f x)) → Agree (ps ++ qs) (xs ++ ys) Q (r >>= f)
 agree_then ps qs xs ys P Q (Err fault) f h next = either_on fault ps qs xs ys h
-agree_then ps qs xs ys P Q (Ok x) f h next = subst (λ l. Agree (ps ++ qs) (l ++ ys) Q (f x)) (sym h.0) (behind ps qs ys Q (f x) (next x h.1))
+agree_then ps qs xs ys P Q (Ok x) f h next = subst (λ l. Agree (ps ++ qs) (l ++ ys) Q (f x)) (sym h.0) (agree_after ps qs ys Q (f x) (next x h.1))
 
 -- the second finds nothing
 agree_last : {X Z : Type 0} (ps : List Extent) (xs : List CompileFault) (P : X → Type 0) (Q : Z → Type 0) (r : Result X CompileFault) (f : X → Result Z CompileFault)

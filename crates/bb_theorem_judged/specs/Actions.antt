@@ -2,11 +2,11 @@
 use Rattle.std.specs.Prelude.{ℕ, ◌-◌, Bool, nat_lt, List, [], ◌∷◌, ◌++◌, length, Option, Some, None, is_ok, is_some, option_and_then, Result, Ok, Err}
 use Rattle.bb_code.specs.declared.parts.TheConstants.{STACK_LIMIT, SAID_LIMIT}
 use Rattle.bb_schema_classes.specs.declared.kind.Link.{Link}
-use Rattle.bb_verify_effect.specs.Kind.{Kind}
-use Rattle.bb_verify_effect.specs.Kind.TheVariants as kinds
+use Rattle.bb_code.specs.declared.frame.Kind.{Kind}
+use Rattle.bb_code.specs.declared.frame.Kind.TheVariants as kinds
 use Rattle.bb_verify_effect.specs.Part.{writes, ends_rated, ends_answered}
-use Rattle.bb_verify_effect.specs.Schema.{Schema, class_named, space_named, descends}
-use Rattle.bb_verify_effect.specs.Spaces.{allowed}
+use Rattle.bb_schema.specs.Schema.{Schema, class_named, space_named, descends}
+use Rattle.bb_schema.specs.Spaces.{allowed}
 use Rattle.bb_verify_effect.specs.declared.part.Part.{Part}
 use Rattle.bb_lang.specs.Action.{Action}
 use Rattle.bb_lang.specs.Action.TheVariants as actions

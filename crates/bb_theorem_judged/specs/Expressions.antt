@@ -1,9 +1,9 @@
 -- Expressions, sequences and patterns: the kind of an expression, if it is known, the class of the units of a sequence,
 -- and the flaws of each in order, with room for `room` values on the stack.
 use Rattle.std.specs.Prelude.{ℕ, ◌-◌, List, [], ◌++◌, Option, Some}
-use Rattle.bb_verify_effect.specs.Kind.{Kind}
-use Rattle.bb_verify_effect.specs.Kind.TheVariants.{Int}
-use Rattle.bb_verify_effect.specs.Schema.{Schema, class_named, space_named}
+use Rattle.bb_code.specs.declared.frame.Kind.{Kind}
+use Rattle.bb_code.specs.declared.frame.Kind.TheVariants.{Int}
+use Rattle.bb_schema.specs.Schema.{Schema, class_named, space_named}
 use Rattle.bb_lang.specs.Trees.{ExprTree, Steps, SequenceTree, PatternTree, Patterns, atom, unary, binary, chain, size_of, no_step, apply, divide, found, linked, all, and_of, or_of, not_of, test, no_pattern, more}
 use Rattle.bb_compile_scope.specs.declared.fault.TextFlaw.{TextFlaw}
 use Rattle.bb_theorem_judged.specs.Atoms.{unit_flaws, atom_kind, atom_flaws}

@@ -1,6 +1,6 @@
 -- The flaws of one statement, and its fault.
 use Rattle.std.specs.Prelude.{ℕ, ◌==◌, Bool, List, [], ◌∷◌, Option, Some, None, Result, Ok, Err, if◌then◌else◌}
-use Rattle.bb_verify_effect.specs.Kind.{Kind}
+use Rattle.bb_code.specs.declared.frame.Kind.{Kind}
 use Rattle.bb_verify_effect.specs.Kinds.{is_same_plain}
 use Rattle.bb_compile_scope.specs.Faults.{lowest}
 use Rattle.bb_compile_scope.specs.Place.{Place}

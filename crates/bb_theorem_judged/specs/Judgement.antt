@@ -2,7 +2,7 @@
 -- on code.
 use Rattle.std.specs.Prelude.{◌≡◌, ◌⊎◌, Bool, false, ◌&&◌, not, is_ok, List, [], ◌∷◌, Result, Ok, Err, if◌then◌else◌}
 use Rattle.bb_verify_effect.specs.Part.{ends_done}
-use Rattle.bb_verify_effect.specs.Schema.{Schema}
+use Rattle.bb_schema.specs.Schema.{Schema}
 use Rattle.bb_verify_effect.specs.declared.part.Part.{Part}
 use Rattle.bb_lang.specs.Blocks.{BlockTree}
 use Rattle.bb_compile.specs.declared.part.TheConstants.{LOOP_NESTING}

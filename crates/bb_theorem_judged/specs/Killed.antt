@@ -1,8 +1,8 @@
 -- Which names are live at a loop's start: a name is not live there if the body assigns to it, or may delete a unit of
 -- its class. The body is walked once, as if all paths were taken.
 use Rattle.std.specs.Prelude.{ℕ, ◌==◌, List, Option, Some, None, option_map, option_and_then, if◌then◌else◌}
-use Rattle.bb_verify_effect.specs.Kind.TheVariants.{Old}
-use Rattle.bb_verify_effect.specs.Schema.{Schema, class_named}
+use Rattle.bb_code.specs.declared.frame.Kind.TheVariants.{Old}
+use Rattle.bb_schema.specs.Schema.{Schema, class_named}
 use Rattle.bb_lang.specs.Atom.TheVariants as atoms
 use Rattle.bb_lang.specs.Action.{Action}
 use Rattle.bb_lang.specs.Action.TheVariants.{Let, New, Assign, Delete}

@@ -1,7 +1,7 @@
 -- Operations: the kind of their results, and the flaws of their operands.
 use Rattle.std.specs.Prelude.{ℤ, pos, int_lt, List, [], ◌++◌, Option, Some, is_some}
-use Rattle.bb_verify_effect.specs.Kind.{Kind}
-use Rattle.bb_verify_effect.specs.Kind.TheVariants as kinds
+use Rattle.bb_code.specs.declared.frame.Kind.{Kind}
+use Rattle.bb_code.specs.declared.frame.Kind.TheVariants as kinds
 use Rattle.bb_lang.specs.Unary.{Unary}
 use Rattle.bb_lang.specs.Unary.TheVariants as unaries
 use Rattle.bb_lang.specs.Binary.{Binary}

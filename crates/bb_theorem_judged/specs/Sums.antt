@@ -3,9 +3,9 @@
 use Rattle.std.specs.Prelude.{ℕ, ◌+◌, nat_le, Bool, true, ◌&&◌, List, [], ◌∷◌, ◌++◌, length, Option, Some, is_ok, if◌then◌else◌}
 use Rattle.std.specs.List.{list_any}
 use Rattle.std.specs.Str.{bytes_eq}
-use Rattle.bb_verify_effect.specs.Kind.{Kind}
+use Rattle.bb_code.specs.declared.frame.Kind.{Kind}
 use Rattle.bb_verify_effect.specs.Part.{ends_done}
-use Rattle.bb_verify_effect.specs.Schema.{Schema, class_named}
+use Rattle.bb_schema.specs.Schema.{Schema, class_named}
 use Rattle.bb_verify_effect.specs.declared.part.Part.{Part}
 use Rattle.bb_lang.specs.Action.{Action}
 use Rattle.bb_lang.specs.Action.TheVariants as actions

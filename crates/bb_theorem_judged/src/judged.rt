@@ -16,7 +16,7 @@ ghost use Rattle.bb_theorem_judged.specs.Held.{part_held, statements_held, sourc
 ghost use Rattle.bb_theorem_judged.specs.Judgement.{part_faults, IsJudged};
 ghost use Rattle.bb_theorem_judged.specs.Sources.{source_faults, extents, all_fit, AreJudged, IsTooLarge};
 
-use bb_verify_effect::Schema;
+use bb_schema::Schema;
 
 /// States that a source is refused for the first fault of its text. Which faults a text has is defined by names and
 /// kinds only, without a code. A source without a fault compiles if its parts fit. A part fits if its ops, different

@@ -4,8 +4,8 @@ use Rattle.std.specs.Prelude.{nat_le, nat_lt, is_some}
 use Rattle.std.proofs.lemmas.Bool.Decides.{nat_tests}
 use Rattle.bb_basis.proofs.NumberLemmas.{nat_lt_true}
 use Rattle.bb_schema.specs.Schema.{Schema, name_of_label}
-use Rattle.bb_verify.specs.Flaw.{Flaw}
-use Rattle.bb_verify.specs.Flaw.TheVariants as flaws
+use Rattle.bb_code.specs.declared.flaw.Flaw.{Flaw}
+use Rattle.bb_code.specs.declared.flaw.Flaw.TheVariants as flaws
 use Rattle.bb_verify.specs.Tables.{entry, known_label}
 
 -- ---- tables

@@ -84,12 +84,12 @@ module _ (s : Schema) (part : Part) (code : Code) (fs : List Frame) (is : IsCode
   answers_by n steps m b op f (Err (Stuck reason)) at there later adv = tt
   answers_by n steps m b op f (Err Memory) at there later adv = tt
 
-  none_left : (steps : ℕ) (m : Machine) (b : Board) → AnswersAs part (steps_from zero steps code (m, b)).0
+  no_steps_answer : (steps : ℕ) (m : Machine) (b : Board) → AnswersAs part (steps_from zero steps code (m, b)).0
   unfolding steps_from
-  none_left steps m b = tt
+  no_steps_answer steps m b = tt
 
   pub answers_from : (n steps : ℕ) (m : Machine) (b : Board) → Stands s code fs (m, b) → AnswersAs part (steps_from n steps code (m, b)).0
-  answers_from zero steps m b stands = none_left steps m b
+  answers_from zero steps m b stands = no_steps_answer steps m b
   answers_from (suc n) steps m b stands =
       let op = there_is code.ops m.place (inside s part code fs is sf facts m b stands) in
       subst (λ (e : Execution). AnswersAs part e.0) (sym (by_op n steps code m b (Some op.0) (sym op.1)))

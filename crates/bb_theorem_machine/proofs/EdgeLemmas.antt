@@ -5,7 +5,7 @@ use Rattle.bb_board.specs.Board.{Board}
 use Rattle.bb_board.specs.Fits.{Fits}
 use Rattle.bb_code.specs.declared.op.Op.{Op}
 use Rattle.bb_verify.specs.Edges.{Edges}
-use Rattle.bb_verify.specs.Flaw.{Flaw}
+use Rattle.bb_code.specs.declared.flaw.Flaw.{Flaw}
 use Rattle.bb_verify.specs.FrameType.{Frame}
 use Rattle.bb_verify.specs.Effect as effects
 use Rattle.bb_verify.specs.nesting.Jumps.{target_of}

@@ -105,8 +105,8 @@ module _ (s : Schema) (sf : schemas.Fits s) (u : Units) (uf : units.Fits u) (sam
   unit_has : (n slot : ℕ) (x : OneUnit) (v : SlotValue) → fin.get u.units n ≡ Some x → list_any (λ d. d == slot) (slots_of s x.class) ≡ true → default_of s slot ≡ Some v → has_slot u n slot ≡ true
   unit_has n slot x v at among default = rw (at, same, slots_kept s x.class, among, default_kept s slot, default) refl
 
-  held : (n own slot : ℕ) (v value : SlotValue) → class_of u n ≡ Some own → value_of u n slot ≡ Some value → default_of s slot ≡ Some v → value_fits (label_counts s.label_sets) (kind_of_value v) value ≡ true
-  held n own slot v value is has default =
+  value_fits_default : (n own slot : ℕ) (v value : SlotValue) → class_of u n ≡ Some own → value_of u n slot ≡ Some value → default_of s slot ≡ Some v → value_fits (label_counts s.label_sets) (kind_of_value v) value ≡ true
+  value_fits_default n own slot v value is has default =
       let x = unit_there u n own is in
       let at : value_at x.unit.values slot ≡ Some value = sym (ap (option_and_then (λ (y : OneUnit). value_at y.values slot)) x.at) ∙ has in
       let known : layouts.default_at (layouts.layout_of s).defaults slot ≡ Some v = default_kept s slot ∙ default in
@@ -115,7 +115,7 @@ module _ (s : Schema) (sf : schemas.Fits s) (u : Units) (uf : units.Fits u) (sam
 
   value_by : (n own slot : ℕ) (v : SlotValue) (o : Option SlotValue) → class_of u n ≡ Some own → default_of s slot ≡ Some v → value_of u n slot ≡ o → is_some o ≡ true → HoldsValue s u n slot (kind_of_value v)
   value_by n own slot v None is default at some = absurd cc
-  value_by n own slot v (Some value) is default at some = record { value = value; is = at; fits = held n own slot v value is at default }
+  value_by n own slot v (Some value) is default at some = record { value = value; is = at; fits = value_fits_default n own slot v value is at default }
 
   -- a live unit has a value in each ordinary slot of its class
   pub holds_value : (n own slot : ℕ) (v : SlotValue) → class_of u n ≡ Some own → (h : HasSlot s own slot (kind_of_value v)) → h.entry.content ≡ contents.Default v → HoldsValue s u n slot (kind_of_value v)

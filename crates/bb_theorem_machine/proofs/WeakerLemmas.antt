@@ -20,8 +20,8 @@ use Rattle.bb_theorem_machine.proofs.KindLemmas.{is_of_weaker, was_weaker}
 use Rattle.bb_theorem_machine.proofs.LiveLemmas.{was_of}
 
 module _ (s : Schema) (w : World) (fits : schemas.Fits s) (uf : units.Fits w.units) where
-  same : (k l : Kind) (v : Value) → is_same_plain k l ≡ true → HasKind s w k v → HasKind s w l v
-  same k l v is has = subst (λ i. HasKind s w i v) (same_plain k l is) has
+  same_plain_has : (k l : Kind) (v : Value) → is_same_plain k l ≡ true → HasKind s w k v → HasKind s w l v
+  same_plain_has k l v is has = subst (λ i. HasKind s w i v) (same_plain k l is) has
 
   pub weaker : (k l : Kind) (v : Value) → weakens s k l ≡ true → HasKind s w k v → HasKind s w l v
   unfolding weakens
@@ -29,35 +29,35 @@ module _ (s : Schema) (w : World) (fits : schemas.Fits s) (uf : units.Fits w.uni
   weaker (Ref c) (Old d) v up has = (has.0, has.1, was_of s w uf d has.0 (is_of_weaker s w fits c d has.0 up has.2))
   weaker (Old c) (Old d) v up has = (has.0, has.1, was_weaker s w fits c d has.0 up has.2)
   weaker (Seq c) (Seq d) v up has = (has.0, has.1, All-weaker (WasOf s w c) (WasOf s w d) (λ n. was_weaker s w fits c d n up) has.0.rest has.2, has.3)
-  weaker Any l v up has = same Any l v up has
-  weaker Int l v up has = same Int l v up has
-  weaker Text l v up has = same Text l v up has
-  weaker Truth l v up has = same Truth l v up has
-  weaker (Label set) l v up has = same (Label set) l v up has
-  weaker Interval l v up has = same Interval l v up has
-  weaker (Ref c) Any v up has = same (Ref c) Any v up has
-  weaker (Ref c) Int v up has = same (Ref c) Int v up has
-  weaker (Ref c) Text v up has = same (Ref c) Text v up has
-  weaker (Ref c) Truth v up has = same (Ref c) Truth v up has
-  weaker (Ref c) (Label set) v up has = same (Ref c) (Label set) v up has
-  weaker (Ref c) Interval v up has = same (Ref c) Interval v up has
-  weaker (Ref c) (Seq d) v up has = same (Ref c) (Seq d) v up has
-  weaker (Old c) Any v up has = same (Old c) Any v up has
-  weaker (Old c) Int v up has = same (Old c) Int v up has
-  weaker (Old c) Text v up has = same (Old c) Text v up has
-  weaker (Old c) Truth v up has = same (Old c) Truth v up has
-  weaker (Old c) (Label set) v up has = same (Old c) (Label set) v up has
-  weaker (Old c) Interval v up has = same (Old c) Interval v up has
-  weaker (Old c) (Ref d) v up has = same (Old c) (Ref d) v up has
-  weaker (Old c) (Seq d) v up has = same (Old c) (Seq d) v up has
-  weaker (Seq c) Any v up has = same (Seq c) Any v up has
-  weaker (Seq c) Int v up has = same (Seq c) Int v up has
-  weaker (Seq c) Text v up has = same (Seq c) Text v up has
-  weaker (Seq c) Truth v up has = same (Seq c) Truth v up has
-  weaker (Seq c) (Label set) v up has = same (Seq c) (Label set) v up has
-  weaker (Seq c) Interval v up has = same (Seq c) Interval v up has
-  weaker (Seq c) (Ref d) v up has = same (Seq c) (Ref d) v up has
-  weaker (Seq c) (Old d) v up has = same (Seq c) (Old d) v up has
+  weaker Any l v up has = same_plain_has Any l v up has
+  weaker Int l v up has = same_plain_has Int l v up has
+  weaker Text l v up has = same_plain_has Text l v up has
+  weaker Truth l v up has = same_plain_has Truth l v up has
+  weaker (Label set) l v up has = same_plain_has (Label set) l v up has
+  weaker Interval l v up has = same_plain_has Interval l v up has
+  weaker (Ref c) Any v up has = same_plain_has (Ref c) Any v up has
+  weaker (Ref c) Int v up has = same_plain_has (Ref c) Int v up has
+  weaker (Ref c) Text v up has = same_plain_has (Ref c) Text v up has
+  weaker (Ref c) Truth v up has = same_plain_has (Ref c) Truth v up has
+  weaker (Ref c) (Label set) v up has = same_plain_has (Ref c) (Label set) v up has
+  weaker (Ref c) Interval v up has = same_plain_has (Ref c) Interval v up has
+  weaker (Ref c) (Seq d) v up has = same_plain_has (Ref c) (Seq d) v up has
+  weaker (Old c) Any v up has = same_plain_has (Old c) Any v up has
+  weaker (Old c) Int v up has = same_plain_has (Old c) Int v up has
+  weaker (Old c) Text v up has = same_plain_has (Old c) Text v up has
+  weaker (Old c) Truth v up has = same_plain_has (Old c) Truth v up has
+  weaker (Old c) (Label set) v up has = same_plain_has (Old c) (Label set) v up has
+  weaker (Old c) Interval v up has = same_plain_has (Old c) Interval v up has
+  weaker (Old c) (Ref d) v up has = same_plain_has (Old c) (Ref d) v up has
+  weaker (Old c) (Seq d) v up has = same_plain_has (Old c) (Seq d) v up has
+  weaker (Seq c) Any v up has = same_plain_has (Seq c) Any v up has
+  weaker (Seq c) Int v up has = same_plain_has (Seq c) Int v up has
+  weaker (Seq c) Text v up has = same_plain_has (Seq c) Text v up has
+  weaker (Seq c) Truth v up has = same_plain_has (Seq c) Truth v up has
+  weaker (Seq c) (Label set) v up has = same_plain_has (Seq c) (Label set) v up has
+  weaker (Seq c) Interval v up has = same_plain_has (Seq c) Interval v up has
+  weaker (Seq c) (Ref d) v up has = same_plain_has (Seq c) (Ref d) v up has
+  weaker (Seq c) (Old d) v up has = same_plain_has (Seq c) (Old d) v up has
 
   -- nothing but what is known to be anything weakens to it
   any_weaker : (l : Kind) → weakens s Any l ≡ true → l ≡ Any

@@ -9,10 +9,10 @@ use Rattle.bb_code.specs.declared.parts.TheConstants.{STACK_LIMIT, SAID_LIMIT}
 use Rattle.bb_code.specs.declared.op.LinkChange.TheVariants as changes
 use Rattle.bb_verify_effect.specs.declared.part.Part.{Part}
 use Rattle.bb_verify_effect.specs.Part.{writes, ends_rated, ends_answered}
-use Rattle.bb_verify_effect.specs.Kind.{Kind}
-use Rattle.bb_verify_effect.specs.Kind.TheVariants as kinds
-use Rattle.bb_verify_effect.specs.Op.{Op}
-use Rattle.bb_verify_effect.specs.Op.TheVariants as ops
+use Rattle.bb_code.specs.declared.frame.Kind.{Kind}
+use Rattle.bb_code.specs.declared.frame.Kind.TheVariants as kinds
+use Rattle.bb_code.specs.declared.op.Op.{Op}
+use Rattle.bb_code.specs.declared.op.Op.TheVariants as ops
 use Rattle.bb_schema.specs.Schema.{Schema}
 use Rattle.bb_schema.specs.Fits as schemas
 use Rattle.bb_lang.specs.Action.{Action}
@@ -26,11 +26,11 @@ use Rattle.bb_compile_scope.specs.LocalKinds.{is_free, kind_at}
 use Rattle.bb_theorem_meaning.proofs.KeepLemmas.{moves_same}
 use Rattle.bb_theorem_accepted.specs.Buffer.{Buffer}
 use Rattle.bb_theorem_accepted.specs.Buffers.{noted, due, put}
-use Rattle.bb_theorem_accepted.specs.Expressions.{expr_code}
-use Rattle.bb_theorem_accepted.specs.Actions.{effect_noted, end_noted, values_code, say_code, end_code, action_code}
-use Rattle.bb_machine.specs.Board.{Board, with_world}
-use Rattle.bb_machine.specs.World.{after_say}
-use Rattle.bb_machine.specs.Said.{Said}
+use Rattle.bb_compile.specs.Expressions.{expr_code}
+use Rattle.bb_compile.specs.Actions.{effect_noted, end_noted, values_code, say_code, end_code, action_code}
+use Rattle.bb_board.specs.Board.{Board, with_world}
+use Rattle.bb_board.specs.World.{after_say}
+use Rattle.bb_board.specs.declared.note.Said.{Said}
 use Rattle.bb_machine.specs.declared.outcome.Answer.TheVariants.{Rated, Declined}
 use Rattle.bb_machine.specs.Changing.{State, say, said_due}
 use Rattle.bb_machine.specs.Jumping.{answered}

@@ -14,10 +14,10 @@ use Rattle.bb_schema_classes.specs.declared.kind.Kind.TheVariants as held
 use Rattle.bb_schema_classes.specs.declared.kind.Link.{Link}
 use Rattle.bb_code.specs.Code.{Code}
 use Rattle.bb_code.specs.declared.parts.TheConstants.{TEXT_BYTES_LIMIT, TEXT_COUNT_LIMIT}
-use Rattle.bb_verify_effect.specs.Kind.{Kind}
-use Rattle.bb_verify_effect.specs.Kind.TheVariants as kinds
-use Rattle.bb_verify_effect.specs.Op.{Op}
-use Rattle.bb_verify_effect.specs.Op.TheVariants as ops
+use Rattle.bb_code.specs.declared.frame.Kind.{Kind}
+use Rattle.bb_code.specs.declared.frame.Kind.TheVariants as kinds
+use Rattle.bb_code.specs.declared.op.Op.{Op}
+use Rattle.bb_code.specs.declared.op.Op.TheVariants as ops
 use Rattle.bb_schema.specs.Schema.{Schema, slot_named, kind_of_slot, name_of_label, label_set_named, label_named}
 use Rattle.bb_schema.specs.Fits as schemas
 use Rattle.bb_lang.specs.Atom.{Atom}
@@ -34,10 +34,10 @@ use Rattle.bb_compile_scope.specs.Slots.{with_kind, slot_of, value_in, link_in, 
 use Rattle.bb_theorem_accepted.specs.Buffer.{Buffer}
 use Rattle.bb_theorem_accepted.specs.Buffers.{noted, put, text_at, text_index}
 use Rattle.bb_theorem_accepted.specs.Atoms.{pushed, loaded, unit_code, gotten, got_from, slot_code, text_noted, text_code, label_of, label_in, label_code, atom_code}
-use Rattle.bb_machine.specs.Board.{Board}
-use Rattle.bb_machine.specs.Fits.{Fits}
-use Rattle.bb_machine.specs.Units as units
-use Rattle.bb_machine.specs.World.{class_at}
+use Rattle.bb_board.specs.Board.{Board}
+use Rattle.bb_board.specs.Fits.{Fits}
+use Rattle.bb_units.specs.Units as units
+use Rattle.bb_board.specs.World.{class_at}
 use Rattle.bb_machine.specs.Changing.{State}
 use Rattle.bb_machine.specs.declared.halt.Halt.TheVariants as halts
 use Rattle.bb_machine.specs.Machine.{Machine, with_stack, go_to, there, local_at, pop, push}

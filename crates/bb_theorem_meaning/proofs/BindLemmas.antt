@@ -7,9 +7,9 @@ use Rattle.bb_schema_classes.specs.declared.class.Class.{Class}
 use Rattle.bb_code.specs.Code.{Code}
 use Rattle.bb_code.specs.declared.parts.TheConstants.{STACK_LIMIT}
 use Rattle.bb_verify_effect.specs.Kinds.{is_same_plain}
-use Rattle.bb_verify_effect.specs.Kind.{Kind}
-use Rattle.bb_verify_effect.specs.Kind.TheVariants as kinds
-use Rattle.bb_verify_effect.specs.Op.TheVariants as ops
+use Rattle.bb_code.specs.declared.frame.Kind.{Kind}
+use Rattle.bb_code.specs.declared.frame.Kind.TheVariants as kinds
+use Rattle.bb_code.specs.declared.op.Op.TheVariants as ops
 use Rattle.bb_schema.specs.Schema.{Schema, class_named, descends}
 use Rattle.bb_schema.specs.Fits as schemas
 use Rattle.bb_lang.specs.Action.TheVariants as actions
@@ -23,13 +23,13 @@ use Rattle.bb_compile_scope.specs.Scope.{local_of}
 use Rattle.bb_theorem_accepted.specs.Buffer.{Buffer}
 use Rattle.bb_theorem_accepted.specs.Buffers.{noted, known, put, with_kinds, declare}
 use Rattle.bb_theorem_accepted.specs.Operations.{Made}
-use Rattle.bb_theorem_accepted.specs.Expressions.{expr_code}
-use Rattle.bb_theorem_accepted.specs.Actions.{let_as, let_code, assign_as, assign_to, assign_code, new_of, new_code}
-use Rattle.bb_machine.specs.Board.{with_world}
-use Rattle.bb_machine.specs.CreateFault.{CreateFault}
-use Rattle.bb_machine.specs.CreateFault.TheVariants as creates
-use Rattle.bb_machine.specs.Units as units
-use Rattle.bb_machine.specs.World.{after_create}
+use Rattle.bb_compile.specs.Expressions.{expr_code}
+use Rattle.bb_compile.specs.Actions.{let_as, let_code, assign_as, assign_to, assign_code, new_of, new_code}
+use Rattle.bb_board.specs.Board.{with_world}
+use Rattle.bb_units.specs.declared.fault.CreateFault.{CreateFault}
+use Rattle.bb_units.specs.declared.fault.CreateFault.TheVariants as creates
+use Rattle.bb_units.specs.Units as units
+use Rattle.bb_board.specs.World.{after_create}
 use Rattle.bb_machine.specs.Changing.{State, halt_of_create, new_unit}
 use Rattle.bb_machine.specs.Machine.{Machine, with_stack, there, room, push, go_to}
 use Rattle.bb_machine.specs.Step.{step}

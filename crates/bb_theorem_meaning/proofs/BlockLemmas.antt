@@ -4,8 +4,8 @@ use Rattle.std.specs.Prelude.{take}
 use Rattle.bb_basis.specs.Results.{◌>>=◌}
 use Rattle.bb_code.specs.Code.{Code}
 use Rattle.bb_verify_effect.specs.declared.part.Part.{Part}
-use Rattle.bb_verify_effect.specs.Kind.{Kind}
-use Rattle.bb_verify_effect.specs.Op.TheVariants as ops
+use Rattle.bb_code.specs.declared.frame.Kind.{Kind}
+use Rattle.bb_code.specs.declared.op.Op.TheVariants as ops
 use Rattle.bb_schema.specs.Schema.{Schema}
 use Rattle.bb_schema.specs.Fits as schemas
 use Rattle.bb_lang.specs.Blocks.{BlockTree, absent, otherwise}
@@ -16,8 +16,8 @@ use Rattle.bb_compile_scope.specs.declared.scope.NamedLocal.{NamedLocal}
 use Rattle.bb_compile_scope.specs.Scope.{mark_of, back_to}
 use Rattle.bb_theorem_accepted.specs.Buffer.{Buffer}
 use Rattle.bb_theorem_accepted.specs.Buffers.{leave}
-use Rattle.bb_theorem_accepted.specs.Exits.{Exits}
-use Rattle.bb_theorem_accepted.specs.Statements.{statements_code}
+use Rattle.bb_compile.specs.declared.exits.Exits.{Exits}
+use Rattle.bb_compile.specs.Statements.{statements_code}
 use Rattle.bb_machine.specs.Changing.{State}
 use Rattle.bb_theorem_accepted.proofs.Laws.{Clean, Grown, Has, AreAimed, AbsentLaid, ElseEnded, ElseOn, Guard, Branches, grown_none, grown_on, has_before, InEither, InOther, branches_absent, branches_else, same_more, more_after, block_count, aims_grown, aims_count, aims_has, aims_there, aimed_behind, aimed_before, jump_count, open_is, closed_is, end_count, open_has, jump_there, block_clean, block_now, block_grown, count_of}
 use Rattle.bb_theorem_meaning.specs.Meaning.{Meaning}
@@ -76,8 +76,8 @@ module _ (schema : Schema) (sf : schemas.Fits schema) (part : Part) (code : Code
     abbrev w : Buffer
     w = leave (mark_of r.scope) (leave (mark_of u.scope) v)
 
-    abbrev whole : Grown r v
-    whole = grown_on r u v gd.named g
+    abbrev branch_grown : Grown r v
+    branch_grown = grown_on r u v gd.named g
 
     long : length u.ops ≤ length v.ops
     long = let e = count_of u v g in omega (arith, e)
@@ -121,16 +121,16 @@ module _ (schema : Schema) (sf : schemas.Fits schema) (part : Part) (code : Code
 
     absent_acts : (t : Buffer) (ended now : Bool) → AbsentLaid (mark_of r.scope) (length a.ops) (length gd.es) ended w t now → Has code t → Acts code start s t (λ scene. test scene >>= chosen (statements first) (λ sc. Ok sc) scene)
     absent_acts t ended now al has =
-        let all = al.alike.ops ∙ aimed_behind a r v gd.es gd.some gd.ops gd.texts gd.queries whole in
+        let all = al.alike.ops ∙ aimed_behind a r v gd.es gd.some gd.ops gd.texts gd.queries branch_grown in
         let more = same_more v t al.alike.texts al.alike.queries in
         let le_v = long in
         let le_u = short in
-        let some = block_count a r v gd.es gd.some gd.ops gd.texts gd.queries whole in
-        let grown = aims_grown a r v gd.es gd.some gd.ops gd.texts gd.queries whole t (length v.ops) [] all more in
-        let count = aims_count a r v gd.es gd.some gd.ops gd.texts gd.queries whole t (length v.ops) [] all more in
+        let some = block_count a r v gd.es gd.some gd.ops gd.texts gd.queries branch_grown in
+        let grown = aims_grown a r v gd.es gd.some gd.ops gd.texts gd.queries branch_grown t (length v.ops) [] all more in
+        let count = aims_count a r v gd.es gd.some gd.ops gd.texts gd.queries branch_grown t (length v.ops) [] all more in
         let same_count : length t.ops ≡ length v.ops = omega (arith, count) in
-        let there = aims_there a r v gd.es gd.some gd.ops gd.texts gd.queries whole t (length v.ops) [] all more code (omega (arith, some)) gd.opens has in
-        let has_v = aims_has a r v gd.es gd.some gd.ops gd.texts gd.queries whole t (length v.ops) [] all more code gd.opens has in
+        let there = aims_there a r v gd.es gd.some gd.ops gd.texts gd.queries branch_grown t (length v.ops) [] all more code (omega (arith, some)) gd.opens has in
+        let has_v = aims_has a r v gd.es gd.some gd.ops gd.texts gd.queries branch_grown t (length v.ops) [] all more code gd.opens has in
         let block = own has_v in
         let m = tests (has_before code a t grown has) in
         let names_are : IsTidy s.scope → t.scope.names ≡ r.scope.names = λ tidy. al.names ∙ names_twice r.scope u.scope v.scope m.moves (block.moves (tidy_inner t grown m block tidy)) in
@@ -164,21 +164,21 @@ module _ (schema : Schema) (sf : schemas.Fits schema) (part : Part) (code : Code
       ended_acts el first_ends h second =
           let x = el.inner in
           let y = el.end in
-          let all = aimed_before a r v gd.es gd.some gd.ops gd.texts gd.queries whole x y el.begun.ops h in
+          let all = aimed_before a r v gd.es gd.some gd.ops gd.texts gd.queries branch_grown x y el.begun.ops h in
           let has_y = has_before code y t (grown_none y t el.alike.ops el.alike.texts el.alike.queries) has in
           let more_y = more_after v x y y el.begun.texts el.begun.queries h refl refl in
           let more = more_after v x y t el.begun.texts el.begun.queries h el.alike.texts el.alike.queries in
           let le_v = long in
           let le_u = short in
-          let some = block_count a r v gd.es gd.some gd.ops gd.texts gd.queries whole in
-          let grown = aims_grown a r v gd.es gd.some gd.ops gd.texts gd.queries whole t (length v.ops) h.ops (el.alike.ops ∙ all) more in
-          let count = aims_count a r v gd.es gd.some gd.ops gd.texts gd.queries whole t (length v.ops) h.ops (el.alike.ops ∙ all) more in
-          let begin_is = el.begun.ops ∙ aimed_behind a r v gd.es gd.some gd.ops gd.texts gd.queries whole in
-          let begin = aims_count a r v gd.es gd.some gd.ops gd.texts gd.queries whole x (length v.ops) [] begin_is (same_more v x el.begun.texts el.begun.queries) in
+          let some = block_count a r v gd.es gd.some gd.ops gd.texts gd.queries branch_grown in
+          let grown = aims_grown a r v gd.es gd.some gd.ops gd.texts gd.queries branch_grown t (length v.ops) h.ops (el.alike.ops ∙ all) more in
+          let count = aims_count a r v gd.es gd.some gd.ops gd.texts gd.queries branch_grown t (length v.ops) h.ops (el.alike.ops ∙ all) more in
+          let begin_is = el.begun.ops ∙ aimed_behind a r v gd.es gd.some gd.ops gd.texts gd.queries branch_grown in
+          let begin = aims_count a r v gd.es gd.some gd.ops gd.texts gd.queries branch_grown x (length v.ops) [] begin_is (same_more v x el.begun.texts el.begun.queries) in
           let begin_count : length v.ops ≡ length x.ops = omega (arith, begin) in
           let end_is : length t.ops ≡ length y.ops = ap length el.alike.ops in
-          let there = aims_there a r v gd.es gd.some gd.ops gd.texts gd.queries whole y (length v.ops) h.ops all more_y code (omega (arith, some)) gd.opens has_y in
-          let has_v = aims_has a r v gd.es gd.some gd.ops gd.texts gd.queries whole y (length v.ops) h.ops all more_y code gd.opens has_y in
+          let there = aims_there a r v gd.es gd.some gd.ops gd.texts gd.queries branch_grown y (length v.ops) h.ops all more_y code (omega (arith, some)) gd.opens has_y in
+          let has_v = aims_has a r v gd.es gd.some gd.ops gd.texts gd.queries branch_grown y (length v.ops) h.ops all more_y code gd.opens has_y in
           let block = own has_v in
           let other = second has_y in
           let m = tests (has_before code a t grown has) in
@@ -209,20 +209,20 @@ module _ (schema : Schema) (sf : schemas.Fits schema) (part : Part) (code : Code
       on_acts el h second =
           let x = el.inner in
           let y = el.end in
-          let begin_is = open_is a r v gd.es gd.some gd.ops gd.texts gd.queries whole x y t el.begun.ops h el.alike.ops in
-          let all = closed_is a r v gd.es gd.some gd.ops gd.texts gd.queries whole x y t el.begun.ops h el.alike.ops in
-          let jumped = jump_count a r v gd.es gd.some gd.ops gd.texts gd.queries whole x y t el.begun.ops h el.alike.ops in
-          let end_is = end_count a r v gd.es gd.some gd.ops gd.texts gd.queries whole x y t el.begun.ops h el.alike.ops in
-          let has_y = open_has a r v gd.es gd.some gd.ops gd.texts gd.queries whole x y t el.begun.ops h el.alike.ops code (same_more y t el.alike.texts el.alike.queries) has in
-          let jump = jump_there a r v gd.es gd.some gd.ops gd.texts gd.queries whole x y t el.begun.ops h el.alike.ops code has in
+          let begin_is = open_is a r v gd.es gd.some gd.ops gd.texts gd.queries branch_grown x y t el.begun.ops h el.alike.ops in
+          let all = closed_is a r v gd.es gd.some gd.ops gd.texts gd.queries branch_grown x y t el.begun.ops h el.alike.ops in
+          let jumped = jump_count a r v gd.es gd.some gd.ops gd.texts gd.queries branch_grown x y t el.begun.ops h el.alike.ops in
+          let end_is = end_count a r v gd.es gd.some gd.ops gd.texts gd.queries branch_grown x y t el.begun.ops h el.alike.ops in
+          let has_y = open_has a r v gd.es gd.some gd.ops gd.texts gd.queries branch_grown x y t el.begun.ops h el.alike.ops code (same_more y t el.alike.texts el.alike.queries) has in
+          let jump = jump_there a r v gd.es gd.some gd.ops gd.texts gd.queries branch_grown x y t el.begun.ops h el.alike.ops code has in
           let more_y = more_after v x y y el.begun.texts el.begun.queries h refl refl in
           let more = more_after v x y t el.begun.texts el.begun.queries h el.alike.texts el.alike.queries in
           let le_v = long in
           let le_u = short in
           let rest = count_of x y h in
-          let grown = aims_grown a r v gd.es gd.some gd.ops gd.texts gd.queries whole t (length x.ops) (ops.Jump (length y.ops) ∷ h.ops) all more in
-          let there = aims_there a r v gd.es gd.some gd.ops gd.texts gd.queries whole t (length x.ops) (ops.Jump (length y.ops) ∷ h.ops) all more code (omega (arith, jumped)) gd.opens has in
-          let has_v = aims_has a r v gd.es gd.some gd.ops gd.texts gd.queries whole y (length x.ops) (ops.Jump 0 ∷ h.ops) begin_is more_y code gd.opens has_y in
+          let grown = aims_grown a r v gd.es gd.some gd.ops gd.texts gd.queries branch_grown t (length x.ops) (ops.Jump (length y.ops) ∷ h.ops) all more in
+          let there = aims_there a r v gd.es gd.some gd.ops gd.texts gd.queries branch_grown t (length x.ops) (ops.Jump (length y.ops) ∷ h.ops) all more code (omega (arith, jumped)) gd.opens has in
+          let has_v = aims_has a r v gd.es gd.some gd.ops gd.texts gd.queries branch_grown y (length x.ops) (ops.Jump 0 ∷ h.ops) begin_is more_y code gd.opens has_y in
           let block = own has_v in
           let other = second has_y in
           let m = tests (has_before code a t grown has) in

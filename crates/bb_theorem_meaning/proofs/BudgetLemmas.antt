@@ -14,14 +14,14 @@ use Rattle.bb_verify.specs.nesting.Loops.{depth}
 use Rattle.bb_verify.specs.declared.checked.TheConstants.{FOUND_LIMIT}
 use Rattle.bb_verify_effect.specs.declared.part.Part.{Part}
 use Rattle.bb_verify_effect.specs.declared.part.Part.TheVariants.{Require, Obviate, Retrigger, Revalidate, Do}
-use Rattle.bb_verify_effect.specs.Op.TheVariants as ops
+use Rattle.bb_code.specs.declared.op.Op.TheVariants as ops
 use Rattle.bb_compile_scope.specs.Place.{Place}
 use Rattle.bb_compile_scope.specs.Scope.{begin_with, mark_of}
 use Rattle.bb_theorem_accepted.specs.Buffer.{Buffer}
 use Rattle.bb_theorem_accepted.specs.Buffers.{put, leave}
 use Rattle.bb_theorem_accepted.specs.Finish.{empty_buffer}
-use Rattle.bb_theorem_accepted.specs.Parts.{done}
-use Rattle.bb_theorem_accepted.specs.PartLimits.{LOOP_NESTING}
+use Rattle.bb_compile.specs.Parts.{done}
+use Rattle.bb_compile.specs.declared.part.TheConstants.{LOOP_NESTING}
 use Rattle.bb_theorem_meaning.specs.Loopless.{is_loopless}
 use Rattle.bb_theorem_accepted.proofs.Laws.{Grown, Has, put_ok, grown_none, grown_on, grown_op, has_before, PartLaid, loopless_depth}
 use Rattle.bb_theorem_meaning.proofs.SceneLemmas.{sole_of}
@@ -79,12 +79,12 @@ module _ (schema : Schema) (part : Part) (place : Place) (block : BlockTree) (co
 -- ---- how many steps it can make
 
 -- each place counts once
-counted : (code : Code) (m : ℕ) → ((place : ℕ) → depth code place ≡ 0) → (ps : List ℕ) (a : ℕ) → fold (λ a place. a + turns m (depth code place)) a ps ≡ a + length ps
-counted code m none [] a = omega arith
-counted code m none (p ∷ ps) a =
+turns_without_loops : (code : Code) (m : ℕ) → ((place : ℕ) → depth code place ≡ 0) → (ps : List ℕ) (a : ℕ) → fold (λ a place. a + turns m (depth code place)) a ps ≡ a + length ps
+turns_without_loops code m none [] a = omega arith
+turns_without_loops code m none (p ∷ ps) a =
     let bare : turns m 0 ≡ 1 = simp unary_clauses refl in
     let one : turns m (depth code p) ≡ 1 = ap (turns m) (none p) ∙ bare in
-    let rest = counted code m none ps (a + turns m (depth code p)) in
+    let rest = turns_without_loops code m none ps (a + turns m (depth code p)) in
     rest ∙ omega (arith, one)
 
 range_count : (from n : ℕ) → length (range_with_len from n) ≡ n
@@ -93,7 +93,7 @@ range_count from (suc n) = ap suc (range_count (from + 1) n)
 
 budget_once : (code : Code) (m : ℕ) → ((place : ℕ) → depth code place ≡ 0) → budget code m ≡ length code.ops
 budget_once code m none =
-    let all = counted code m none (range_with_len 0 (length code.ops)) 0 in
+    let all = turns_without_loops code m none (range_with_len 0 (length code.ops)) 0 in
     let count = range_count 0 (length code.ops) in
     omega (arith, all, count)
 

@@ -7,8 +7,8 @@ use Rattle.std.specs.Option.{option_map_or}
 use Rattle.std.proofs.lemmas.Bool.Decides.{nat_tests}
 use Rattle.bb_basis.proofs.ResultLemmas.{same_ok}
 use Rattle.bb_code.specs.Code.{Code}
-use Rattle.bb_verify_effect.specs.Kind.{Kind}
-use Rattle.bb_verify_effect.specs.Kind.TheVariants as kinds
+use Rattle.bb_code.specs.declared.frame.Kind.{Kind}
+use Rattle.bb_code.specs.declared.frame.Kind.TheVariants as kinds
 use Rattle.bb_schema.specs.Schema.{Schema, descends}
 use Rattle.bb_schema.specs.Fits as schemas
 use Rattle.bb_lang.specs.Variable.{Variable}
@@ -17,18 +17,18 @@ use Rattle.bb_compile_scope.specs.LocalKinds.{is_free, kind_at}
 use Rattle.bb_compile_scope.specs.Scope.{name_of, local_of}
 use Rattle.bb_theorem_accepted.specs.Buffer.{Buffer}
 use Rattle.bb_board.proofs.Laws.{class_there}
-use Rattle.bb_machine.specs.Board.{Board}
-use Rattle.bb_machine.specs.Fits.{Fits}
-use Rattle.bb_machine.specs.State.{World}
-use Rattle.bb_machine.specs.Units as units
-use Rattle.bb_machine.specs.World.{class_at}
+use Rattle.bb_board.specs.Board.{Board}
+use Rattle.bb_board.specs.Fits.{Fits}
+use Rattle.bb_board.specs.State.{World}
+use Rattle.bb_units.specs.Units as units
+use Rattle.bb_board.specs.World.{class_at}
 use Rattle.bb_machine.specs.Changing.{State}
 use Rattle.bb_machine.specs.declared.value.Value.{Value}
 use Rattle.bb_machine.specs.declared.value.Value.TheVariants.{Unit as One}
 use Rattle.bb_theorem_machine.specs.Kinds.{HasKind, LocalHas}
 use Rattle.bb_theorem_machine.specs.NeverWrong.{Stands}
-use Rattle.bb_verify.specs.Due as dues
-use Rattle.bb_verify.specs.FrameType.{Frame}
+use Rattle.bb_verify_effect.specs.Due as dues
+use Rattle.bb_verify_effect.specs.declared.frame.Frame.{Frame}
 use Rattle.bb_theorem_accepted.proofs.Laws.{Finds, kept_unit, descends_on, under_class}
 use Rattle.bb_theorem_meaning.specs.Meaning.{named}
 use Rattle.bb_theorem_meaning.specs.Statements.{Scene}
@@ -57,26 +57,26 @@ module _ (schema : Schema) (w : World) (fits : Fits schema w) (n : ℕ) (live : 
   last_part false false a is all = absurd cc
 
   -- a value of the kind of a unit
-  below : (k : Kind) (c : ℕ) → dues.class_of k ≡ Ok c → HasKind schema w k (One n) → descends schema (class_at w n) c ≡ true
-  below (kinds.Ref d) c of has =
+  unit_descends : (k : Kind) (c : ℕ) → dues.class_of k ≡ Ok c → HasKind schema w k (One n) → descends schema (class_at w n) c ≡ true
+  unit_descends (kinds.Ref d) c of has =
       let same : d ≡ c = cc in
       let unit : has.0 ≡ n = (let e : One n ≡ One has.0 = has.1 in cc) in
       let is : Some has.2.own ≡ Some (class_at w n) = sym has.2.is ∙ (ap (units.class_of w.units) unit ∙ own_class) in
       let own : has.2.own ≡ class_at w n = cc in
       ap (λ x. descends schema x c) (sym own) ∙ (ap (descends schema has.2.own) (sym same) ∙ has.2.under)
-  below (kinds.Old d) c of has =
+  unit_descends (kinds.Old d) c of has =
       let same : d ≡ c = cc in
       let unit : has.0 ≡ n = (let e : One n ≡ One has.0 = has.1 in cc) in
       let was = subst (λ k. (k == 0 || (nat_lt k w.units.next && option_map_or (λ x. descends schema x d) (units.class_of w.units k) true)) ≡ true) unit has.2 in
       let under = last_part (n == 0) (nat_lt n w.units.next) (option_map_or (λ x. descends schema x d) (units.class_of w.units n) true) some_unit was in
       ap (descends schema (class_at w n)) (sym same) ∙ (sym (ap (λ (o : Option ℕ). option_map_or (λ x. descends schema x d) o true) own_class) ∙ under)
-  below kinds.Any c of has = absurd cc
-  below kinds.Int c of has = absurd cc
-  below kinds.Text c of has = absurd cc
-  below kinds.Bool c of has = absurd cc
-  below (kinds.Label set) c of has = absurd cc
-  below kinds.Interval c of has = absurd cc
-  below (kinds.Seq d) c of has = absurd cc
+  unit_descends kinds.Any c of has = absurd cc
+  unit_descends kinds.Int c of has = absurd cc
+  unit_descends kinds.Text c of has = absurd cc
+  unit_descends kinds.Bool c of has = absurd cc
+  unit_descends (kinds.Label set) c of has = absurd cc
+  unit_descends kinds.Interval c of has = absurd cc
+  unit_descends (kinds.Seq d) c of has = absurd cc
 
 unit_taken : (k : Kind) (c : ℕ) → class_of k ≡ Some c → is_free k ≡ false
 unit_taken (kinds.Ref d) c of = refl
@@ -106,5 +106,5 @@ module _ (schema : Schema) (sf : schemas.Fits schema) (code : Code) (start : Sta
       let value = value_named st.0.locals (name_of v) local s.scope.names scene.names here.held at in
       let same : value.0 ≡ One k = same_ok value.0 (One k) (sym value.1 ∙ is) in
       let has = local_has schema st.1.world stand.frame.locals st.0.locals local (One k) stand.suits.locals (value.2 ∙ ap (λ x. Some (Some x)) same) in
-      let own_below = below schema st.1.world stand.fits k (subst (λ (b : Board). units.is_live b.world.units k ≡ true) (sym here.board) live) known unit.0 unit.1 has in
+      let own_below = unit_descends schema st.1.world stand.fits k (subst (λ (b : Board). units.is_live b.world.units k ≡ true) (sym here.board) live) known unit.0 unit.1 has in
       descends_on schema sf (class_at scene.board.world k) unit.0 own (subst (λ (b : Board). descends schema (class_at b.world k) unit.0 ≡ true) here.board own_below) unit.2

@@ -8,18 +8,18 @@ use Rattle.std.proofs.lemmas.Int.{ints}
 use Rattle.std.proofs.lemmas.Str.{IsUtf8-from_is_utf8}
 use Rattle.std.proofs.lemmas.List.Elements.{All-nil, All-cons}
 use Rattle.bb_code.specs.Code as codes
-use Rattle.bb_code.specs.OperandKind.{OperandKind}
-use Rattle.bb_code.specs.OperandKind.TheVariants as operands
-use Rattle.bb_code.specs.Query.{Query}
-use Rattle.bb_code.specs.Trees.{Tree, Trees, all, and_of, or_of, not_of, ordered, is_label, no_more, more, node_count}
-use Rattle.bb_code.specs.PatternLimits.{NODE_LIMIT, OPERAND_LIMIT}
+use Rattle.bb_pattern.specs.declared.value.OperandKind.{OperandKind}
+use Rattle.bb_pattern.specs.declared.value.OperandKind.TheVariants as operands
+use Rattle.bb_pattern.specs.declared.query.Query.{Query}
+use Rattle.bb_pattern.specs.Trees.{Tree, Trees, all, and_of, or_of, not_of, ordered, is_label, no_more, more, node_count}
+use Rattle.bb_pattern.specs.declared.fits.TheConstants.{NODE_LIMIT, OPERAND_LIMIT}
 use Rattle.bb_code.specs.declared.parts.TheConstants.{TEXT_COUNT_LIMIT, TEXT_BYTES_LIMIT, QUERY_LIMIT, FRAME_LIMIT, LOOP_LIMIT, OP_LIMIT, SAID_LIMIT, STACK_LIMIT, LOCAL_LIMIT}
 use Rattle.bb_code.specs.declared.frame.FrameEntry.{FrameEntry}
 use Rattle.bb_code.specs.declared.frame.Loop.{Loop}
-use Rattle.bb_verify_effect.specs.Kind.{Kind}
-use Rattle.bb_verify_effect.specs.Kind.TheVariants as kinds
-use Rattle.bb_verify_effect.specs.Op.{Op}
-use Rattle.bb_verify_effect.specs.Op.TheVariants as ops
+use Rattle.bb_code.specs.declared.frame.Kind.{Kind}
+use Rattle.bb_code.specs.declared.frame.Kind.TheVariants as kinds
+use Rattle.bb_code.specs.declared.op.Op.{Op}
+use Rattle.bb_code.specs.declared.op.Op.TheVariants as ops
 use Rattle.bb_theorem_accepted.specs.Within as tests
 
 every : {X : Type 0} (f : X → Bool) (P : X → Type 0) → ((x : X) → f x ≡ true → P x) → (xs : List X) → list_all f xs ≡ true → All P xs

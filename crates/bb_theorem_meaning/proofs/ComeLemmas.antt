@@ -7,8 +7,8 @@ use Rattle.bb_basis.specs.Results.{◌>>=◌}
 use Rattle.bb_code.specs.Code.{Code}
 use Rattle.bb_code.specs.declared.op.Op.{Op}
 use Rattle.bb_code.specs.declared.op.Op.TheVariants as ops
-use Rattle.bb_machine.specs.Fits.{Fits}
-use Rattle.bb_machine.specs.Board.{Board}
+use Rattle.bb_board.specs.Fits.{Fits}
+use Rattle.bb_board.specs.Board.{Board}
 use Rattle.bb_machine.specs.Activation.{halted, steps_from}
 use Rattle.bb_machine.specs.Changing.{State}
 use Rattle.bb_machine.specs.declared.halt.Halt.{Halt}

@@ -3,23 +3,23 @@ use Rattle.std.proofs.Common.{◌≡◌, ℕ, ◌-◌, List, [], ◌∷◌, ◌+
 use Rattle.bb_basis.specs.Results.{◌>>=◌, ok_or, try_map}
 use Rattle.bb_basis.proofs.ResultLemmas.{bind_ok, same_ok}
 use Rattle.bb_code.specs.Code.{Code}
-use Rattle.bb_verify_effect.specs.Kind.TheVariants as kinds
-use Rattle.bb_verify_effect.specs.Op.TheVariants as ops
-use Rattle.bb_code.specs.Trees.{Tree, Trees, no_more}
-use Rattle.bb_code.specs.Trees as nodes
+use Rattle.bb_code.specs.declared.frame.Kind.TheVariants as kinds
+use Rattle.bb_code.specs.declared.op.Op.TheVariants as ops
+use Rattle.bb_pattern.specs.Trees.{Tree, Trees, no_more}
+use Rattle.bb_pattern.specs.Trees as nodes
 use Rattle.bb_schema.specs.Schema.{Schema, class_named, space_named, dims_of}
 use Rattle.bb_schema.specs.Fits as schemas
 use Rattle.bb_lang.specs.Trees.{ExprTree, Steps, SequenceTree, PatternTree, Patterns, atom, unary, binary, chain, size_of, no_step, apply, divide, found, linked, all, and_of, or_of, not_of, test, no_pattern, more}
-use Rattle.bb_theorem_accepted.specs.Asked.{Asked}
-use Rattle.bb_theorem_accepted.specs.Expressions.{expr_code, steps_code, sequence_code, pattern_code, patterns_code}
-use Rattle.bb_theorem_accepted.specs.Queries.{Patterned, no_operand, node_counted, node_noted, test_code, query_code}
+use Rattle.bb_compile.specs.declared.asked.Asked.{Asked}
+use Rattle.bb_compile.specs.Expressions.{expr_code, steps_code, sequence_code, pattern_code, patterns_code}
+use Rattle.bb_compile.specs.Queries.{Patterned, no_operand, node_counted, node_noted, test_code, query_code}
 use Rattle.bb_compile_scope.specs.Slots.{index_of}
 use Rattle.bb_compile_scope.specs.declared.scope.Scope.{Scope}
 use Rattle.bb_compile_scope.specs.declared.fault.CompileFault.{CompileFault}
 use Rattle.bb_theorem_accepted.specs.Buffer.{Buffer}
 use Rattle.bb_theorem_accepted.specs.Buffers.{known, put}
 use Rattle.bb_theorem_accepted.specs.Operations.{Made, unary_code, binary_code, operator_code, division_code}
-use Rattle.bb_machine.specs.Board.{Board}
+use Rattle.bb_board.specs.Board.{Board}
 use Rattle.bb_machine.specs.Changing.{State}
 use Rattle.bb_machine.specs.declared.value.Value.{Value}
 use Rattle.bb_theorem_accepted.proofs.Laws.{Clean, Grown, Has, with_op, is_known, put_ok, grown_none, grown_on, grown_op, has_before, pair_ok, clean_before, triple_ok}

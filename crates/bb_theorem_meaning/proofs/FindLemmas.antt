@@ -7,14 +7,14 @@ use Rattle.bb_basis.specs.Results.{◌>>=◌, ok_or, try_map}
 use Rattle.bb_basis.proofs.ResultLemmas.{bind_ok, guard_ok}
 use Rattle.bb_code.specs.Code.{Code}
 use Rattle.bb_code.specs.declared.parts.TheConstants.{QUERY_LIMIT}
-use Rattle.bb_verify_effect.specs.Kind.{Kind}
-use Rattle.bb_verify_effect.specs.Kind.TheVariants as kinds
-use Rattle.bb_verify_effect.specs.Op.TheVariants as ops
-use Rattle.bb_verify_effect.specs.Query.{Query}
-use Rattle.bb_code.specs.PatternLimits.{OPERAND_LIMIT}
-use Rattle.bb_code.specs.OperandKind.{OperandKind}
-use Rattle.bb_code.specs.OperandKind.TheVariants as operands
-use Rattle.bb_code.specs.Trees.{Tree, all}
+use Rattle.bb_code.specs.declared.frame.Kind.{Kind}
+use Rattle.bb_code.specs.declared.frame.Kind.TheVariants as kinds
+use Rattle.bb_code.specs.declared.op.Op.TheVariants as ops
+use Rattle.bb_pattern.specs.declared.query.Query.{Query}
+use Rattle.bb_pattern.specs.declared.fits.TheConstants.{OPERAND_LIMIT}
+use Rattle.bb_pattern.specs.declared.value.OperandKind.{OperandKind}
+use Rattle.bb_pattern.specs.declared.value.OperandKind.TheVariants as operands
+use Rattle.bb_pattern.specs.Trees.{Tree, all}
 use Rattle.bb_pattern.specs.declared.fault.PatternFault.{PatternFault}
 use Rattle.bb_pattern.specs.declared.value.DimValue.{DimValue}
 use Rattle.bb_pattern.specs.Fits.{query_fits}
@@ -28,12 +28,12 @@ use Rattle.bb_compile_scope.specs.declared.fault.CompileFault.TheVariants.{At}
 use Rattle.bb_compile_scope.specs.declared.fault.TextFlaw.TheVariants.{Unknown, Limit}
 use Rattle.bb_compile_scope.specs.declared.scope.Scope.{Scope}
 use Rattle.bb_compile_scope.specs.Slots.{index_of, in_byte, operand_due, dimension_at, dimension}
-use Rattle.bb_theorem_accepted.specs.Asked.{Asked}
-use Rattle.bb_theorem_accepted.specs.Queries.{Patterned, no_operand, node_counted, node_noted, with_operand, operand_number, operand_noted, test_tree, test_at, test_code, query_code}
+use Rattle.bb_compile.specs.declared.asked.Asked.{Asked}
+use Rattle.bb_compile.specs.Queries.{Patterned, no_operand, node_counted, node_noted, with_operand, operand_number, operand_noted, test_tree, test_at, test_code, query_code}
 use Rattle.bb_theorem_accepted.specs.Buffer.{Buffer}
 use Rattle.bb_theorem_accepted.specs.Buffers.{noted, due, put_value, asked_query}
 use Rattle.bb_theorem_accepted.specs.Operations.{Made}
-use Rattle.bb_machine.specs.Board.{Board}
+use Rattle.bb_board.specs.Board.{Board}
 use Rattle.bb_machine.specs.Changing.{State}
 use Rattle.bb_machine.specs.declared.halt.Halt.{Halt}
 use Rattle.bb_machine.specs.Machine.{Machine, with_stack, go_to, pop_many}

@@ -8,9 +8,9 @@ use Rattle.bb_basis.proofs.ResultLemmas.{bind_ok, same_ok}
 use Rattle.bb_code.specs.Code.{Code}
 use Rattle.bb_code.specs.declared.parts.TheConstants.{STACK_LIMIT}
 use Rattle.bb_verify_effect.specs.declared.part.Part.{Part}
-use Rattle.bb_verify_effect.specs.Kind.TheVariants as kinds
-use Rattle.bb_verify_effect.specs.Op.TheVariants as ops
-use Rattle.bb_verify.specs.FrameType.{Frame}
+use Rattle.bb_code.specs.declared.frame.Kind.TheVariants as kinds
+use Rattle.bb_code.specs.declared.op.Op.TheVariants as ops
+use Rattle.bb_verify_effect.specs.declared.frame.Frame.{Frame}
 use Rattle.bb_schema.specs.Schema.{Schema}
 use Rattle.bb_schema.specs.Fits as schemas
 use Rattle.bb_lang.specs.Blocks.{BlockTree, for_of}
@@ -19,7 +19,7 @@ use Rattle.bb_lang.specs.View.{sequence_of}
 use Rattle.bb_compile_scope.specs.declared.scope.NamedLocal.{NamedLocal}
 use Rattle.bb_compile_scope.proofs.Laws.{free_first}
 use Rattle.bb_theorem_accepted.specs.Buffer.{Buffer}
-use Rattle.bb_machine.specs.Board.{Board}
+use Rattle.bb_board.specs.Board.{Board}
 use Rattle.bb_machine.specs.Changing.{State}
 use Rattle.bb_machine.specs.declared.halt.Halt.{Halt}
 use Rattle.bb_machine.specs.Machine.{Machine, with_stack, with_local, go_to, store}

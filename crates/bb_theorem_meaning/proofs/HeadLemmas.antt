@@ -7,9 +7,9 @@ use Rattle.bb_basis.proofs.ResultLemmas.{bind_ok, same_ok}
 use Rattle.bb_schema_classes.specs.declared.kind.Link.{Link}
 use Rattle.bb_code.specs.Code.{Code}
 use Rattle.bb_code.specs.declared.parts.TheConstants.{STACK_LIMIT}
-use Rattle.bb_verify_effect.specs.Kind.{Kind}
-use Rattle.bb_verify_effect.specs.Kind.TheVariants as kinds
-use Rattle.bb_verify_effect.specs.Op.TheVariants as ops
+use Rattle.bb_code.specs.declared.frame.Kind.{Kind}
+use Rattle.bb_code.specs.declared.frame.Kind.TheVariants as kinds
+use Rattle.bb_code.specs.declared.op.Op.TheVariants as ops
 use Rattle.bb_schema.specs.Schema.{Schema, class_named, slot_named, descends}
 use Rattle.bb_schema.specs.Fits as schemas
 use Rattle.bb_links.specs.Links.{ends}
@@ -26,11 +26,11 @@ use Rattle.bb_compile_scope.specs.Scope.{name_of, local_of}
 use Rattle.bb_compile_scope.specs.Slots.{link_slot, partner_slot, partner_in}
 use Rattle.bb_theorem_accepted.specs.Buffer.{Buffer}
 use Rattle.bb_theorem_accepted.specs.Buffers.{declare}
-use Rattle.bb_theorem_accepted.specs.Bindings.{is_class, is_test_of}
-use Rattle.bb_theorem_accepted.specs.Exits.{Exits}
-use Rattle.bb_machine.specs.Board.{Board}
-use Rattle.bb_machine.specs.Units as units
-use Rattle.bb_machine.specs.World.{class_at}
+use Rattle.bb_compile.specs.Bindings.{is_class, is_test_of}
+use Rattle.bb_compile.specs.declared.exits.Exits.{Exits}
+use Rattle.bb_board.specs.Board.{Board}
+use Rattle.bb_units.specs.Units as units
+use Rattle.bb_board.specs.World.{class_at}
 use Rattle.bb_machine.specs.Changing.{State}
 use Rattle.bb_machine.specs.Machine.{go_to}
 use Rattle.bb_machine.specs.declared.value.Value.{Value}

@@ -5,25 +5,25 @@ use Rattle.bb_basis.specs.Results.{◌>>=◌, ok_or, map_err, try_map}
 use Rattle.bb_schema_classes.specs.declared.value.Value.{Value as SlotValue}
 use Rattle.bb_code.specs.Code.{Code}
 use Rattle.bb_code.specs.declared.op.LinkChange.{LinkChange}
-use Rattle.bb_verify_effect.specs.Op.TheVariants as ops
+use Rattle.bb_code.specs.declared.op.Op.TheVariants as ops
 use Rattle.bb_schema.specs.Schema.{Schema, slot_named, space_named, default_of}
 use Rattle.bb_schema.specs.Spaces.{allowed}
 use Rattle.bb_schema.specs.Fits as schemas
 use Rattle.bb_units.specs.Layout.{layout_of, can_hold}
 use Rattle.bb_compile_scope.specs.declared.scope.NamedLocal.{NamedLocal}
-use Rattle.bb_machine.specs.Board.{Board, with_world}
-use Rattle.bb_machine.specs.Units as units
-use Rattle.bb_machine.specs.World.{class_at, after_set}
-use Rattle.bb_machine.specs.Deletion.{after_delete}
-use Rattle.bb_machine.specs.Spaces.{may_enter, after_enter, after_leave}
-use Rattle.bb_machine.specs.May.{may_link, has_link, leads_to}
-use Rattle.bb_machine.specs.Fits.{is_said_of}
-use Rattle.bb_machine.specs.Reason.{Reason}
-use Rattle.bb_machine.specs.Reason.TheVariants.{Deleted, LinkClass, Space}
-use Rattle.bb_machine.specs.Reason.TheVariants as whys
-use Rattle.bb_machine.specs.Said.{Said}
-use Rattle.bb_machine.specs.State.{World}
-use Rattle.bb_board.proofs.Laws.{class_there}
+use Rattle.bb_board.specs.Board.{Board, with_world}
+use Rattle.bb_units.specs.Units as units
+use Rattle.bb_board.specs.World.{class_at, after_set}
+use Rattle.bb_board.specs.Deletion.{after_delete}
+use Rattle.bb_board.specs.Spaces.{may_enter, after_enter, after_leave}
+use Rattle.bb_board.specs.May.{may_link, has_link, leads_to}
+use Rattle.bb_board.specs.Fits.{is_said_of}
+use Rattle.bb_board.specs.declared.reason.Reason.{Reason}
+use Rattle.bb_board.specs.declared.reason.Reason.TheVariants.{Deleted, LinkClass, Space}
+use Rattle.bb_board.specs.declared.reason.Reason.TheVariants as whys
+use Rattle.bb_board.specs.declared.note.Said.{Said}
+use Rattle.bb_board.specs.State.{World}
+use Rattle.bb_board.proofs.Laws.{class_there, has_among}
 use Rattle.bb_machine.specs.declared.outcome.Answer.TheVariants.{Rated}
 use Rattle.bb_machine.specs.Changing.{State, halt_of, held_in, value_due, set_slot, after_change, relink, enter, right_space, leave, delete, said_due}
 use Rattle.bb_machine.specs.declared.halt.Halt.{Halt}
@@ -46,7 +46,7 @@ use Rattle.bb_theorem_meaning.proofs.ComeLemmas.{Leaves, done_on}
 use Rattle.bb_theorem_meaning.proofs.NameLemmas.{AreHeld}
 use Rattle.bb_theorem_meaning.proofs.AtomLemmas.{Good, live_cases}
 use Rattle.bb_theorem_meaning.proofs.ActLemmas.{IsScene, OneLeaf, TwoLeaf}
-use Rattle.bb_theorem_meaning.proofs.SlotLemmas.{slot_same, has_among, link_among}
+use Rattle.bb_theorem_meaning.proofs.SlotLemmas.{slot_same, link_among}
 
 module _ (code : Code) (start : State) (ns : List NamedLocal) where
   -- the blackboard changes, and the stack is empty
@@ -160,7 +160,7 @@ module _ (code : Code) (start : State) (ns : List NamedLocal) where
     -- the slot that the name means for a unit that has it
     slot_is : (b : Board) (k : ℕ) → Good schema b → units.is_live b.world.units k ≡ true → units.has_slot b.world.units k slot ≡ true → slot_of b k name ≡ Ok slot
     slot_is b k good live has =
-        let same = slot_same schema c (class_at b.world k) slot name sf (class_there schema b.world k good.fits live).1 named (has_among schema b.world sf good.fits k slot has) in
+        let same = slot_same schema c (class_at b.world k) slot name sf (class_there schema b.world k good.fits live).1 named (has_among schema b.world good.fits k slot has) in
         ap (λ s. ok_or (slot_named s (class_at b.world k) name) meaningless) good.schema ∙ ap (λ o. ok_or o meaningless) same
 
     link_is : (b : Board) (k : ℕ) → Good schema b → units.is_live b.world.units k ≡ true → has_link b.schema (class_at b.world k) slot ≡ true → slot_of b k name ≡ Ok slot

@@ -8,18 +8,18 @@ use Rattle.bb_basis.specs.Results.{◌>>=◌}
 use Rattle.bb_basis.proofs.ListLemmas.{slice_get-set}
 use Rattle.bb_code.specs.Code.{Code}
 use Rattle.bb_verify_effect.specs.declared.part.Part.{Part}
-use Rattle.bb_verify_effect.specs.Kind.TheVariants as kinds
-use Rattle.bb_verify_effect.specs.Op.{Op}
-use Rattle.bb_verify_effect.specs.Op.TheVariants as ops
-use Rattle.bb_verify.specs.FrameType.{Frame}
+use Rattle.bb_code.specs.declared.frame.Kind.TheVariants as kinds
+use Rattle.bb_code.specs.declared.op.Op.{Op}
+use Rattle.bb_code.specs.declared.op.Op.TheVariants as ops
+use Rattle.bb_verify_effect.specs.declared.frame.Frame.{Frame}
 use Rattle.bb_schema.specs.Schema.{Schema}
 use Rattle.bb_schema.specs.Fits as schemas
 use Rattle.bb_units.specs.Units.{is_live}
 use Rattle.bb_lang.specs.Blocks.{BlockTree}
 use Rattle.bb_lang.specs.Sequence.{Sequence as SequenceText}
 use Rattle.bb_theorem_accepted.specs.Buffer.{Buffer}
-use Rattle.bb_machine.specs.Board.{Board}
-use Rattle.bb_machine.specs.Fits as fits
+use Rattle.bb_board.specs.Board.{Board}
+use Rattle.bb_board.specs.Fits as fits
 use Rattle.bb_machine.specs.Changing.{State}
 use Rattle.bb_machine.specs.declared.halt.Halt.{Halt}
 use Rattle.bb_machine.specs.Jumping.{after_next, next_unit}
@@ -211,14 +211,14 @@ module _ (schema : Schema) (sf : schemas.Fits schema) (part : Part) (code : Code
       abbrev st1 : State
       st1 = (with_stack (One n ∷ []) (with_local l (Seq rest) (emptied l m)), st.1)
 
-      is : step code (ops.Next l lr.over) (m, st.1) ≡ Ok st1
-      is = some_next code l lr.over n ms m st.1 q a.here.stack a.held some
+      next_leads : step code (ops.Next l lr.over) (m, st.1) ≡ Ok st1
+      next_leads = some_next code l lr.over n ms m st.1 q a.here.stack a.held some
 
       steps1 : after (a.j + 1) code start ≡ Some st1
-      steps1 = let op = op_here st scene (ops.Next l lr.over) (Ok st1) a.here lr.at_head is in more_after code a.j start st (ops.Next l lr.over) st1 a.steps op.0 op.1
+      steps1 = let op = op_here st scene (ops.Next l lr.over) (Ok st1) a.here lr.at_head next_leads in more_after code a.j start st (ops.Next l lr.over) st1 a.steps op.0 op.1
 
       stays1 : Stays code start lr.over st1
-      stays1 = let lt = head_low in stays_on code start lr.over head lr.over a.j st (ops.Next l lr.over) st1 (omega arith) lt low a.steps a.stays lr.at_head is
+      stays1 = let lt = head_low in stays_on code start lr.over head lr.over a.j st (ops.Next l lr.over) st1 (omega arith) lt low a.steps a.stays lr.at_head next_leads
 
       reached1 : Reached schema code frames st1
       reached1 i x h = reached (a.j + 1 + i) x (then_after code (a.j + 1) i start st1 x steps1 h)

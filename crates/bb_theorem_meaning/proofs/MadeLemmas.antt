@@ -23,9 +23,9 @@ use Rattle.bb_bundle.specs.declared.draft.ReactionDraft.{ReactionDraft}
 use Rattle.bb_bundle.specs.declared.draft.SourceDraft.{SourceDraft}
 use Rattle.bb_bundle.specs.Spelled.{is_spelled, if_spelled}
 use Rattle.bb_compile.specs.Compiled.{class_on, class_of_events, part_of, reaction_of, reaction_if, act_of, header_of, parts_of, draft_of, compiled}
-use Rattle.bb_verify.specs.PartType.{Part}
-use Rattle.bb_verify.specs.PartType.TheVariants.{Require, Obviate, Retrigger, Revalidate, Do}
-use Rattle.bb_theorem_accepted.specs.Parts.{part_code}
+use Rattle.bb_verify_effect.specs.declared.part.Part.{Part}
+use Rattle.bb_verify_effect.specs.declared.part.Part.TheVariants.{Require, Obviate, Retrigger, Revalidate, Do}
+use Rattle.bb_compile.specs.Parts.{part_code}
 
 spelled_same : (b : Bool) (d e : SourceDraft Code) → (let o : Option (SourceDraft Code) = if b then Some d else None in o) ≡ Some e → d ≡ e
 spelled_same true d e h = cc

@@ -14,7 +14,7 @@ use Rattle.bb_code.specs.declared.op.Logic.{Logic}
 use Rattle.bb_code.specs.declared.parts.TheConstants.{STACK_LIMIT}
 use Rattle.bb_code.specs.Code.{Code}
 use Rattle.bb_code.specs.declared.op.Op.TheVariants as ops
-use Rattle.bb_machine.specs.Board.{Board}
+use Rattle.bb_board.specs.Board.{Board}
 use Rattle.bb_machine.specs.Arithmetic.{calculated, divided, compared, combined, bound_of, calculate, divide, compare, eq_text, eq_label, eq_unit, negate, combine, make_interval, bound}
 use Rattle.bb_machine.specs.Changing.{State}
 use Rattle.bb_machine.specs.declared.halt.Halt.{Halt}

@@ -12,11 +12,11 @@ use Rattle.bb_code.specs.declared.op.Comparison.TheVariants as comparisons
 use Rattle.bb_code.specs.declared.op.Logic.{Logic}
 use Rattle.bb_code.specs.declared.op.Logic.TheVariants as logics
 use Rattle.bb_code.specs.Code.{Code}
-use Rattle.bb_verify_effect.specs.Kind.{Kind}
-use Rattle.bb_verify_effect.specs.Kind.TheVariants as kinds
+use Rattle.bb_code.specs.declared.frame.Kind.{Kind}
+use Rattle.bb_code.specs.declared.frame.Kind.TheVariants as kinds
 use Rattle.bb_verify_effect.specs.Kinds.{is_same_plain}
-use Rattle.bb_verify_effect.specs.Op.{Op}
-use Rattle.bb_verify_effect.specs.Op.TheVariants as ops
+use Rattle.bb_code.specs.declared.op.Op.{Op}
+use Rattle.bb_code.specs.declared.op.Op.TheVariants as ops
 use Rattle.bb_lang.specs.Unary.{Unary}
 use Rattle.bb_lang.specs.Unary.TheVariants as unaries
 use Rattle.bb_lang.specs.Binary.{Binary}

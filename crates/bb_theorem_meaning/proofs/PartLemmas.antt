@@ -7,8 +7,8 @@ use Rattle.bb_basis.proofs.ResultLemmas.{same_ok}
 use Rattle.bb_code.specs.Code.{Code, IsCode}
 use Rattle.bb_verify_effect.specs.declared.part.Part.{Part}
 use Rattle.bb_verify_effect.specs.declared.part.Part.TheVariants.{Require, Obviate, Retrigger, Revalidate, Do}
-use Rattle.bb_verify_effect.specs.Op.{Op}
-use Rattle.bb_verify_effect.specs.Op.TheVariants as ops
+use Rattle.bb_code.specs.declared.op.Op.{Op}
+use Rattle.bb_code.specs.declared.op.Op.TheVariants as ops
 use Rattle.bb_schema.specs.Schema.{Schema}
 use Rattle.bb_schema.specs.Fits as schemas
 use Rattle.bb_lang.specs.Blocks.{BlockTree}
@@ -18,16 +18,16 @@ use Rattle.bb_compile_scope.specs.Scope.{begin_with, of_unit, of_event, mark_of}
 use Rattle.bb_theorem_accepted.specs.Buffer.{Buffer}
 use Rattle.bb_theorem_accepted.specs.Buffers.{put, leave}
 use Rattle.bb_theorem_accepted.specs.Finish.{empty_buffer}
-use Rattle.bb_theorem_accepted.specs.Statements.{left}
-use Rattle.bb_theorem_accepted.specs.Parts.{done, part_code}
-use Rattle.bb_theorem_accepted.specs.PartLimits.{LOOP_NESTING}
-use Rattle.bb_machine.specs.Board.{Board}
-use Rattle.bb_machine.specs.Fits.{Fits}
-use Rattle.bb_machine.specs.State.{World}
+use Rattle.bb_compile.specs.Statements.{left}
+use Rattle.bb_compile.specs.Parts.{done, part_code}
+use Rattle.bb_compile.specs.declared.part.TheConstants.{LOOP_NESTING}
+use Rattle.bb_board.specs.Board.{Board}
+use Rattle.bb_board.specs.Fits.{Fits}
+use Rattle.bb_board.specs.State.{World}
 use Rattle.bb_verify.specs.Budget.{budget}
 use Rattle.bb_verify.specs.declared.checked.TheConstants.{FOUND_LIMIT}
 use Rattle.bb_verify.specs.Accepted.{checked}
-use Rattle.bb_verify.specs.FrameType.{Frame}
+use Rattle.bb_verify_effect.specs.declared.frame.Frame.{Frame}
 use Rattle.bb_machine.specs.Activation.{Execution, halted, steps_from, activation}
 use Rattle.bb_machine.specs.declared.outcome.Answer.TheVariants.{Done}
 use Rattle.bb_machine.specs.Changing.{State}
@@ -116,15 +116,15 @@ module _ (part : Part) (frames : List Frame) (code : Code) (entry : Entry) (b : 
   as_steps : (limit : ℕ) → activation limit code entry b ≡ steps_from limit 0 code start
   as_steps limit = rw enough refl
 
-  none_left : (n : ℕ) (m : Machine) (left : Board) → steps_from zero n code (m, left) ≡ (Err (stops.Stuck reasons.Turns n m.found), left)
+  no_steps_stuck : (n : ℕ) (m : Machine) (left : Board) → steps_from zero n code (m, left) ≡ (Err (stops.Stuck reasons.Turns n m.found), left)
   unfolding steps_from
-  none_left n m left = refl
+  no_steps_stuck n m left = refl
 
   -- each blackboard that is met fits, and each state stands at its place
   reached : (j : ℕ) (st : State) → after j code start ≡ Some st → Good b.schema st.1 × Stands b.schema code frames st
   reached j st h =
       let plus : j ≡ j + 0 = omega arith in
-      let e : activation j code entry b ≡ (Err (stops.Stuck reasons.Turns j st.0.found), st.1) = as_steps j ∙ (ap (λ i. steps_from i 0 code start) plus ∙ (goes_there code start j 0 st h ∙ none_left j st.0 st.1)) in (
+      let e : activation j code entry b ≡ (Err (stops.Stuck reasons.Turns j st.0.found), st.1) = as_steps j ∙ (ap (λ i. steps_from i 0 code start) plus ∙ (goes_there code start j 0 st h ∙ no_steps_stuck j st.0 st.1)) in (
         record {
           schema = ap (λ (x : Execution). x.1.schema) (sym e) ∙ activation_schema j code entry b;
           fits = subst (λ (x : Execution). Fits b.schema x.1.world) e (activation_fits part frames code entry b j is sf fits begins);
@@ -148,17 +148,17 @@ module _ (part : Part) (frames : List Frame) (code : Code) (entry : Entry) (b : 
           let mid = was_before code limit (j - limit) start last (ap (λ i. after i code start) (sym whole) ∙ h) in
           let plus : limit ≡ limit + 0 = omega arith in
           absurd (not_stuck limit reasons.Turns limit mid.0.0.found mid.0.1 budgeted
-          (as_steps limit ∙ (ap (λ i. steps_from i 0 code start) plus ∙ (goes_there code start limit 0 mid.0 mid.1 ∙ none_left limit mid.0.0 mid.0.1))))
+          (as_steps limit ∙ (ap (λ i. steps_from i 0 code start) plus ∙ (goes_there code start limit 0 mid.0 mid.1 ∙ no_steps_stuck limit mid.0.0 mid.0.1))))
 
   -- what an execution came to, where it ended
-  told : (r : Meaning Scene) (P : Scene → State → Type 0) (n limit : ℕ) (halt : Halt) (left : Board) → budget code FOUND_LIMIT ≤ limit → Comes code start n (Err (halt, left)) → Leaves P r (Err (halt, left)) → IsTold (ended part r) (activation limit code entry b)
-  told r P n limit (halts.Answered a) left budgeted c h =
+  ended_is_told : (r : Meaning Scene) (P : Scene → State → Type 0) (n limit : ℕ) (halt : Halt) (left : Board) → budget code FOUND_LIMIT ≤ limit → Comes code start n (Err (halt, left)) → Leaves P r (Err (halt, left)) → IsTold (ended part r) (activation limit code entry b)
+  ended_is_told r P n limit (halts.Answered a) left budgeted c h =
       subst (IsTold (ended part r)) (sym (at_limit limit c.0 c.1 c.2 (halts.Answered a) budgeted c.3 c.4 c.5)) (ap (ended part) h ∙ (ended_err part (comes.answered a left) ∙ ap (comes.answered a) (sym c.6)))
-  told r P n limit halts.Full left budgeted c h =
+  ended_is_told r P n limit halts.Full left budgeted c h =
       subst (IsTold (ended part r)) (sym (at_limit limit c.0 c.1 c.2 halts.Full budgeted c.3 c.4 c.5)) (ap (ended part) h ∙ (ended_err part (comes.full left) ∙ ap comes.full (sym c.6)))
-  told r P n limit (halts.Stuck reason) left budgeted c h =
+  ended_is_told r P n limit (halts.Stuck reason) left budgeted c h =
       absurd (not_stuck limit reason (c.0 + 1) c.1.0.found c.1.1 budgeted (at_limit limit c.0 c.1 c.2 (halts.Stuck reason) budgeted c.3 c.4 c.5))
-  told r P n limit halts.Memory left budgeted c h = absurd h
+  ended_is_told r P n limit halts.Memory left budgeted c h = absurd h
 
   -- ---- after the last statement
 
@@ -207,12 +207,12 @@ module _ (part : Part) (frames : List Frame) (code : Code) (entry : Entry) (b : 
     by_came : (class : ℕ) → part ≡ Do class → slice_get code.ops (length t.ops) ≡ Some ops.Done → (came : Came) → Comes code start (length t.ops) came
         → Leaves (IsScene (length t.ops) t.scope.names) (statements block (first_scene entry b)) came → IsTold (ended part (statements block (first_scene entry b))) (activation limit code entry b)
     by_came class part_is at (Ok st) c l = told_done class (statements block (first_scene entry b)) t limit st l.0 part_is at enough_steps c l.1 l.2.board
-    by_came class part_is at (Err (halt, left)) c l = told (statements block (first_scene entry b)) (IsScene (length t.ops) t.scope.names) (length t.ops) limit halt left enough_steps c l
+    by_came class part_is at (Err (halt, left)) c l = ended_is_told (statements block (first_scene entry b)) (IsScene (length t.ops) t.scope.names) (length t.ops) limit halt left enough_steps c l
 
     by_end : length code.ops ≡ length t.ops → (came : Came) → Comes code start (length t.ops) came → Leaves (IsScene (length t.ops) t.scope.names) (statements block (first_scene entry b)) came
         → IsTold (ended part (statements block (first_scene entry b))) (activation limit code entry b)
     by_end count (Ok st) c l = told_else (length t.ops) st (omega (arith, count)) c
-    by_end count (Err (halt, left)) c l = told (statements block (first_scene entry b)) (IsScene (length t.ops) t.scope.names) (length t.ops) limit halt left enough_steps c l
+    by_end count (Err (halt, left)) c l = ended_is_told (statements block (first_scene entry b)) (IsScene (length t.ops) t.scope.names) (length t.ops) limit halt left enough_steps c l
 
     do_told : (class : ℕ) → part ≡ Do class → put ops.Done (leave (mark_of first.scope) t) ≡ Ok u → IsTold (ended part (statements block (first_scene entry b))) (activation limit code entry b)
     do_told class part_is last =

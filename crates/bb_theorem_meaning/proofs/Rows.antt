@@ -13,9 +13,9 @@ use Rattle.bb_lang.specs.Action.{Action}
 use Rattle.bb_lang.specs.Action.TheVariants as actions
 use Rattle.bb_lang.specs.Trees.{ExprTree, atom, binary, chain, no_step, apply, divide}
 use Rattle.bb_lang.specs.Blocks.{BlockTree, StatementTree, no_statement, before_others, action, if_of, otherwise}
-use Rattle.bb_machine.specs.Board.{Board, with_world}
-use Rattle.bb_machine.specs.World.{after_say}
-use Rattle.bb_machine.specs.Said.TheVariants as saids
+use Rattle.bb_board.specs.Board.{Board, with_world}
+use Rattle.bb_board.specs.World.{after_say}
+use Rattle.bb_board.specs.declared.note.Said.TheVariants as saids
 use Rattle.bb_schema_classes.specs.declared.value.Value.TheVariants as held
 use Rattle.bb_machine.specs.declared.outcome.Answer.TheVariants.{Done, Rated, Yes, No}
 use Rattle.bb_machine.specs.declared.value.Value.TheVariants.{Int}

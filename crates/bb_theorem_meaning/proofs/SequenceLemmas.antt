@@ -6,8 +6,8 @@ use Rattle.bb_basis.proofs.ResultLemmas.{bind_ok}
 use Rattle.bb_schema_classes.specs.declared.kind.Link.{Link}
 use Rattle.bb_code.specs.Code.{Code}
 use Rattle.bb_code.specs.declared.parts.TheConstants.{STACK_LIMIT}
-use Rattle.bb_verify_effect.specs.Kind.TheVariants as kinds
-use Rattle.bb_verify_effect.specs.Op.TheVariants as ops
+use Rattle.bb_code.specs.declared.frame.Kind.TheVariants as kinds
+use Rattle.bb_code.specs.declared.op.Op.TheVariants as ops
 use Rattle.bb_schema.specs.Schema.{Schema, slot_named}
 use Rattle.bb_schema.specs.Fits as schemas
 use Rattle.bb_links.specs.Links.{ends}
@@ -19,11 +19,11 @@ use Rattle.bb_theorem_accepted.specs.Buffer.{Buffer}
 use Rattle.bb_theorem_accepted.specs.Buffers.{noted, put}
 use Rattle.bb_theorem_accepted.specs.Operations.{Made}
 use Rattle.bb_theorem_accepted.specs.Atoms.{unit_code}
-use Rattle.bb_theorem_accepted.specs.Queries.{linked_by, linked_from, links_code}
-use Rattle.bb_machine.specs.Board.{Board}
-use Rattle.bb_machine.specs.May.{has_link}
-use Rattle.bb_machine.specs.Units as units
-use Rattle.bb_machine.specs.World.{class_at}
+use Rattle.bb_compile.specs.Queries.{linked_by, linked_from, links_code}
+use Rattle.bb_board.specs.Board.{Board}
+use Rattle.bb_board.specs.May.{has_link}
+use Rattle.bb_units.specs.Units as units
+use Rattle.bb_board.specs.World.{class_at}
 use Rattle.bb_board.proofs.Laws.{class_there}
 use Rattle.bb_machine.specs.Changing.{State}
 use Rattle.bb_machine.specs.declared.halt.Halt.{Halt}

@@ -18,12 +18,12 @@ use Rattle.bb_bundle.specs.declared.draft.Header.{Header}
 use Rattle.bb_bundle.specs.declared.draft.ReactionDraft.{ReactionDraft}
 use Rattle.bb_bundle.specs.declared.draft.SourceDraft.{SourceDraft}
 use Rattle.bb_compile.specs.Compiled.{compiled}
-use Rattle.bb_machine.specs.Board.{Board}
-use Rattle.bb_machine.specs.Fits.{Fits}
-use Rattle.bb_verify.specs.PartType.{Part}
-use Rattle.bb_verify.specs.PartType.TheVariants.{Require, Obviate, Retrigger, Revalidate, Do}
+use Rattle.bb_board.specs.Board.{Board}
+use Rattle.bb_board.specs.Fits.{Fits}
+use Rattle.bb_verify_effect.specs.declared.part.Part.{Part}
+use Rattle.bb_verify_effect.specs.declared.part.Part.TheVariants.{Require, Obviate, Retrigger, Revalidate, Do}
 use Rattle.bb_theorem_accepted.specs.Within.{is_within}
-use Rattle.bb_theorem_accepted.specs.Parts.{part_code}
+use Rattle.bb_compile.specs.Parts.{part_code}
 use Rattle.bb_theorem_accepted.proofs.Laws.{class_there, part_laid, text_accepted}
 use Rattle.bb_theorem_meaning.specs.Classes.{HasClass, HasClasses}
 use Rattle.bb_theorem_meaning.specs.Loopless.{is_loopless}

@@ -10,10 +10,10 @@ use Rattle.bb_lang.specs.Blocks.{BlockTree, StatementTree, no_statement, before_
 use Rattle.bb_compile_scope.specs.Place.{Place}
 use Rattle.bb_compile_scope.specs.declared.fault.TextFlaw.TheVariants.{NoEnd}
 use Rattle.bb_theorem_accepted.specs.Buffer.{Buffer}
-use Rattle.bb_theorem_accepted.specs.Statements.{after_end, statement_code, statements_code}
+use Rattle.bb_compile.specs.Statements.{after_end, statement_code, statements_code}
 use Rattle.bb_machine.specs.Changing.{State}
 use Rattle.bb_theorem_machine.specs.NeverWrong.{Stands}
-use Rattle.bb_verify.specs.FrameType.{Frame}
+use Rattle.bb_verify_effect.specs.declared.frame.Frame.{Frame}
 use Rattle.bb_theorem_accepted.proofs.Laws.{Clean, Has, not_failed, has_before, pair_ok, stated, if_laid, with_laid, binding_laid, if_branches, with_branches, Finds, InBlock, InStatement, statement_clean, block_grown, for_laid, loop_clean, inner_clean, loop_has}
 use Rattle.bb_theorem_meaning.specs.Expressions.{value_of}
 use Rattle.bb_theorem_meaning.specs.Statements.{bound, left, otherwise_done, statement, statements}

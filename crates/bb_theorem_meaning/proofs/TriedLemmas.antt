@@ -6,14 +6,14 @@ use Rattle.bb_code.specs.Code.{Code}
 use Rattle.bb_code.specs.declared.parts.TheConstants.{STACK_LIMIT}
 use Rattle.bb_schema_classes.specs.declared.class.Class.{Class}
 use Rattle.bb_schema.specs.Schema.{descends}
-use Rattle.bb_verify_effect.specs.Op.{Op}
-use Rattle.bb_verify_effect.specs.Op.TheVariants as ops
+use Rattle.bb_code.specs.declared.op.Op.{Op}
+use Rattle.bb_code.specs.declared.op.Op.TheVariants as ops
 use Rattle.bb_links.specs.Links.{ends}
 use Rattle.bb_compile_scope.specs.declared.scope.NamedLocal.{NamedLocal}
-use Rattle.bb_machine.specs.Board.{Board}
-use Rattle.bb_machine.specs.May.{has_link}
-use Rattle.bb_machine.specs.Units as units
-use Rattle.bb_machine.specs.World.{class_at}
+use Rattle.bb_board.specs.Board.{Board}
+use Rattle.bb_board.specs.May.{has_link}
+use Rattle.bb_units.specs.Units as units
+use Rattle.bb_board.specs.World.{class_at}
 use Rattle.bb_machine.specs.Changing.{State}
 use Rattle.bb_machine.specs.declared.halt.Halt.{Halt}
 use Rattle.bb_machine.specs.declared.halt.Halt.TheVariants as halts

@@ -7,9 +7,9 @@ use Rattle.bb_code.specs.Code.{Code}
 use Rattle.bb_code.specs.declared.parts.TheConstants.{STACK_LIMIT}
 use Rattle.bb_code.specs.declared.op.LinkChange.{LinkChange}
 use Rattle.bb_verify_effect.specs.Kinds.{struck}
-use Rattle.bb_verify_effect.specs.Kind.{Kind}
-use Rattle.bb_verify_effect.specs.Op.{Op}
-use Rattle.bb_verify_effect.specs.Op.TheVariants as ops
+use Rattle.bb_code.specs.declared.frame.Kind.{Kind}
+use Rattle.bb_code.specs.declared.op.Op.{Op}
+use Rattle.bb_code.specs.declared.op.Op.TheVariants as ops
 use Rattle.bb_schema.specs.Schema.{Schema, space_named, descends}
 use Rattle.bb_schema.specs.Spaces.{allowed}
 use Rattle.bb_schema.specs.Fits as schemas
@@ -27,10 +27,10 @@ use Rattle.bb_theorem_accepted.specs.Buffer.{Buffer}
 use Rattle.bb_theorem_accepted.specs.Buffers.{noted, due, known, put, with_kinds}
 use Rattle.bb_theorem_accepted.specs.Operations.{Made}
 use Rattle.bb_theorem_accepted.specs.Atoms.{unit_code}
-use Rattle.bb_theorem_accepted.specs.Expressions.{expr_code}
-use Rattle.bb_theorem_accepted.specs.Actions.{set_by, set_in, set_code, link_noted, relinked_by, relinked_in, relink_code, space_noted, entered, enter_code, left_space, leave_code, deleted, delete_code}
-use Rattle.bb_machine.specs.Board.{Board}
-use Rattle.bb_machine.specs.Spaces.{after_enter, after_leave}
+use Rattle.bb_compile.specs.Expressions.{expr_code}
+use Rattle.bb_compile.specs.Actions.{set_by, set_in, set_code, link_noted, relinked_by, relinked_in, relink_code, space_noted, entered, enter_code, left_space, leave_code, deleted, delete_code}
+use Rattle.bb_board.specs.Board.{Board}
+use Rattle.bb_board.specs.Spaces.{after_enter, after_leave}
 use Rattle.bb_machine.specs.Changing.{State, after_change}
 use Rattle.bb_machine.specs.Machine.{room}
 use Rattle.bb_machine.specs.declared.value.Value.{Value}

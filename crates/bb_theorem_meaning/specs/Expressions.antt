@@ -1,9 +1,9 @@
 -- The values of expressions, sequences and patterns, with the values of names and the state of the blackboard given.
 use Rattle.std.specs.Prelude.{ℕ, pos, List, [], ◌∷◌, ◌++◌, length, Ok}
 use Rattle.bb_basis.specs.Results.{◌>>=◌, ok_or, try_map}
-use Rattle.bb_code.specs.Relation.TheVariants as holding
-use Rattle.bb_code.specs.Trees.{Tree, Trees, no_more, ordered, is_label}
-use Rattle.bb_code.specs.Trees as patterns
+use Rattle.bb_pattern.specs.declared.pattern.Relation.TheVariants as holding
+use Rattle.bb_pattern.specs.Trees.{Tree, Trees, no_more, ordered, is_label}
+use Rattle.bb_pattern.specs.Trees as patterns
 use Rattle.bb_pattern.specs.declared.value.DimValue.{DimValue}
 use Rattle.bb_query.specs.Answer.{answer}
 use Rattle.bb_schema.specs.Schema.{class_named, space_named, label_set_named, label_named, dims_of}
@@ -14,7 +14,7 @@ use Rattle.bb_lang.specs.Relation.TheVariants as relations
 use Rattle.bb_lang.specs.Trees.{ExprTree, Steps, SequenceTree, PatternTree, Patterns, atom, unary, binary, chain, size_of, no_step, apply, divide, found, linked, all, and_of, or_of, not_of, test, no_pattern, more}
 use Rattle.bb_compile_scope.specs.Scope.{name_of}
 use Rattle.bb_compile_scope.specs.Slots.{index_of}
-use Rattle.bb_machine.specs.Board.{Board}
+use Rattle.bb_board.specs.Board.{Board}
 use Rattle.bb_machine.specs.Value.{operand_of}
 use Rattle.bb_machine.specs.declared.value.Value.{Value}
 use Rattle.bb_machine.specs.declared.value.Value.TheVariants.{Int, Text, Bool as Truth, Label}

@@ -4,7 +4,7 @@ use Rattle.std.specs.Str.{bytes_eq}
 use Rattle.bb_basis.specs.Results.{ok_or}
 use Rattle.bb_machine.specs.declared.outcome.Answer.{Answer}
 use Rattle.bb_machine.specs.declared.value.Value.{Value}
-use Rattle.bb_machine.specs.Board.{Board}
+use Rattle.bb_board.specs.Board.{Board}
 
 pub data End : Type 0 where
   -- the part has answered, and leaves this blackboard

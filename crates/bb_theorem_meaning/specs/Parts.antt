@@ -3,7 +3,7 @@ use Rattle.std.specs.Prelude.{List, [], ◌∷◌, Some, None, Ok, Err, codes}
 use Rattle.bb_lang.specs.Blocks.{BlockTree}
 use Rattle.bb_verify_effect.specs.declared.part.Part.{Part}
 use Rattle.bb_verify_effect.specs.declared.part.Part.TheVariants.{Do}
-use Rattle.bb_machine.specs.Board.{Board}
+use Rattle.bb_board.specs.Board.{Board}
 use Rattle.bb_machine.specs.declared.outcome.Answer.TheVariants.{Done}
 use Rattle.bb_machine.specs.declared.outcome.Entry.{Entry}
 use Rattle.bb_machine.specs.declared.value.Value.TheVariants.{Unit as One}

@@ -13,13 +13,13 @@ use Rattle.bb_bundle.specs.declared.draft.ActDraft.{ActDraft}
 use Rattle.bb_bundle.specs.declared.draft.ActDraft.TheVariants as drafts
 use Rattle.bb_bundle.specs.declared.draft.ReactionDraft.{ReactionDraft}
 use Rattle.bb_bundle.specs.declared.draft.SourceDraft.{SourceDraft}
-use Rattle.bb_verify.specs.FrameType.{Frame}
-use Rattle.bb_verify.specs.PartType.{Part}
-use Rattle.bb_verify.specs.PartType.TheVariants.{Require, Obviate, Retrigger, Revalidate, Do}
+use Rattle.bb_verify_effect.specs.declared.frame.Frame.{Frame}
+use Rattle.bb_verify_effect.specs.declared.part.Part.{Part}
+use Rattle.bb_verify_effect.specs.declared.part.Part.TheVariants.{Require, Obviate, Retrigger, Revalidate, Do}
 use Rattle.bb_verify.specs.Accepted.{checked}
 use Rattle.bb_verify.specs.Budget.{budget}
 use Rattle.bb_verify.specs.declared.checked.TheConstants.{FOUND_LIMIT}
-use Rattle.bb_machine.specs.Board.{Board}
+use Rattle.bb_board.specs.Board.{Board}
 use Rattle.bb_machine.specs.Activation.{activation}
 use Rattle.bb_machine.specs.declared.outcome.Entry.{Entry}
 use Rattle.bb_theorem_machine.specs.NeverWrong.{EntryFits}

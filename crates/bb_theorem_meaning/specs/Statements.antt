@@ -12,13 +12,13 @@ use Rattle.bb_lang.specs.Trees.{ExprTree}
 use Rattle.bb_lang.specs.View.{sequence_of}
 use Rattle.bb_lang.specs.Blocks.{BlockTree, StatementTree, OtherwiseTree, no_statement, before_others, action, if_of, with_of, for_of, absent, otherwise}
 use Rattle.bb_compile_scope.specs.Scope.{name_of}
-use Rattle.bb_machine.specs.Board.{Board, with_world}
-use Rattle.bb_machine.specs.Units.{is_live, is_full}
-use Rattle.bb_machine.specs.World.{class_at, after_create, after_set, after_say}
-use Rattle.bb_machine.specs.Links.{after_link, after_unlink}
-use Rattle.bb_machine.specs.Deletion.{after_delete}
-use Rattle.bb_machine.specs.Spaces.{after_enter, after_leave}
-use Rattle.bb_machine.specs.State.{World}
+use Rattle.bb_board.specs.Board.{Board, with_world}
+use Rattle.bb_units.specs.Units.{is_live, is_full}
+use Rattle.bb_board.specs.World.{class_at, after_create, after_set, after_say}
+use Rattle.bb_board.specs.Links.{after_link, after_unlink}
+use Rattle.bb_board.specs.Deletion.{after_delete}
+use Rattle.bb_board.specs.Spaces.{after_enter, after_leave}
+use Rattle.bb_board.specs.State.{World}
 use Rattle.bb_machine.specs.declared.outcome.Answer.TheVariants.{Rated, Declined, Yes, No}
 use Rattle.bb_machine.specs.Value.{slot_value_of, said_of}
 use Rattle.bb_machine.specs.declared.value.Value.{Value}

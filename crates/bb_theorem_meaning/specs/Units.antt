@@ -5,9 +5,9 @@ use Rattle.bb_schema.specs.Schema.{slot_named}
 use Rattle.bb_links.specs.Links.{ends}
 use Rattle.bb_lang.specs.Variable.{Variable}
 use Rattle.bb_compile_scope.specs.Scope.{name_of}
-use Rattle.bb_machine.specs.Board.{Board}
-use Rattle.bb_machine.specs.Units.{is_live, value_of}
-use Rattle.bb_machine.specs.World.{class_at}
+use Rattle.bb_board.specs.Board.{Board}
+use Rattle.bb_units.specs.Units.{is_live, value_of}
+use Rattle.bb_board.specs.World.{class_at}
 use Rattle.bb_machine.specs.Value.{value_from}
 use Rattle.bb_machine.specs.declared.value.Value.{Value}
 use Rattle.bb_theorem_meaning.specs.Meaning.{Meaning, Name, meaningless, nothing, named}

@@ -8,7 +8,7 @@ use Rattle.bb_basis.proofs.ResultLemmas.{bind_ok, ok_or_ok, same_ok}
 use Rattle.bb_schema.specs.Schema.{Schema, class_named}
 use Rattle.bb_code.specs.Code.{Code}
 use Rattle.bb_verify.specs.Accepted.{Checked}
-use Rattle.bb_verify.specs.VerifyFault.{VerifyFault}
+use Rattle.bb_code.specs.declared.flaw.VerifyFault.{VerifyFault}
 use Rattle.bb_verify.specs.PartType.{Part}
 use Rattle.bb_verify.specs.PartType.TheVariants.{Require, Obviate, Retrigger, Revalidate, Do}
 use Rattle.bb_lang.specs.Sources.{sources_of as trees_of}
@@ -64,8 +64,8 @@ of_two [] ys i a h = inr (i, h)
 of_two (x ∷ xs) ys zero a h = inl h
 of_two (x ∷ xs) ys (suc i) a h = of_two xs ys i a h
 
-goes_on : {A B E : Type 0} (r : Result A E) (f : A → Result B E) (x : A) (z : Result B E) → r ≡ Ok x → f x ≡ z → (r >>= f) ≡ z
-goes_on r f x z is then = ap (λ q. q >>= f) is ∙ then
+bind_is : {A B E : Type 0} (r : Result A E) (f : A → Result B E) (x : A) (z : Result B E) → r ≡ Ok x → f x ≡ z → (r >>= f) ≡ z
+bind_is r f x z is then = ap (λ q. q >>= f) is ∙ then
 
 module _ (s : Schema) where
   -- ---- codes that are accepted
@@ -77,7 +77,7 @@ module _ (s : Schema) where
   part_passes part None is = (None, refl)
   part_passes part (Some code) is =
       let c = code_passes part code is in
-      (Some c.0, goes_on (accepted_code s part code) (λ d. Ok (Some d)) c.0 (Ok (Some c.0)) c.1 refl)
+      (Some c.0, bind_is (accepted_code s part code) (λ d. Ok (Some d)) c.0 (Ok (Some c.0)) c.1 refl)
 
   reaction_passes : (place : ClassPlace) (part : ℕ → Part) (draft : Option (ReactionDraft Code)) (of : Option ℕ) → reaction_class s place draft ≡ Ok of → IfSome draft (IsAcceptedFor s part)
       → (made : Option (ReactionDraft Checked)) × (accepted_reaction s (option_map part of) draft ≡ Ok made)
@@ -91,13 +91,13 @@ module _ (s : Schema) where
       let second : is.0 ≡ one.0 = let some : Some is.0 ≡ Some one.0 = sym is.1 ∙ named in cc in
       let c = code_passes (part class) draft.code (subst (λ n. IsAccepted s (part n) draft.code) (second ∙ first) is.2) in
       let made : ReactionDraft Checked = record { class = draft.class; clauses = draft.clauses; code = c.0 } in
-      (Some made, goes_on (accepted_code s (part class) draft.code) (λ d. Ok (Some (record { class = draft.class; clauses = draft.clauses; code = d }))) c.0 (Ok (Some made)) c.1 refl)
+      (Some made, bind_is (accepted_code s (part class) draft.code) (λ d. Ok (Some (record { class = draft.class; clauses = draft.clauses; code = d }))) c.0 (Ok (Some made)) c.1 refl)
 
   act_passes : (class : ℕ) (act : ActDraft Code) → IsAcceptedAct s class act → (made : ActDraft Checked) × (accepted_act s (Do class) act ≡ Ok made)
   act_passes class drafts.Native is = (drafts.Native, refl)
   act_passes class (drafts.Do code) is =
       let c = code_passes (Do class) code is in
-      (drafts.Do c.0, goes_on (accepted_code s (Do class) code) (λ d. Ok (drafts.Do d)) c.0 (Ok (drafts.Do c.0)) c.1 refl)
+      (drafts.Do c.0, bind_is (accepted_code s (Do class) code) (λ d. Ok (drafts.Do d)) c.0 (Ok (drafts.Do c.0)) c.1 refl)
 
   draft_passes : (c : Classes) (draft : SourceDraft Code) → AreClasses s draft c → AreAccepted s draft → (made : SourceDraft Checked) × (accepted_draft s c draft ≡ Ok made)
   unfolding accepted_draft accepted_parts
@@ -117,13 +117,13 @@ module _ (s : Schema) where
       let whole : Parts Checked → ActDraft Checked → SourceDraft Checked = λ q b. record { header = draft.header; parts = q; act = b } in
       let made = parts r.0 o.0 t.0 v.0 in
       let passed : accepted_parts s c p ≡ Ok made =
-      goes_on (accepted_part s (Require c.own) p.require) (λ x. obviate >>= λ y. retrigger >>= λ z. revalidate >>= λ w. Ok (parts x y z w)) r.0 (Ok made) r.1
-      (goes_on obviate (λ y. retrigger >>= λ z. revalidate >>= λ w. Ok (parts r.0 y z w)) o.0 (Ok made) o.1
-      (goes_on retrigger (λ z. revalidate >>= λ w. Ok (parts r.0 o.0 z w)) t.0 (Ok made) t.1
-      (goes_on revalidate (λ w. Ok (parts r.0 o.0 t.0 w)) v.0 (Ok made) v.1 refl))) in (
+      bind_is (accepted_part s (Require c.own) p.require) (λ x. obviate >>= λ y. retrigger >>= λ z. revalidate >>= λ w. Ok (parts x y z w)) r.0 (Ok made) r.1
+      (bind_is obviate (λ y. retrigger >>= λ z. revalidate >>= λ w. Ok (parts r.0 y z w)) o.0 (Ok made) o.1
+      (bind_is retrigger (λ z. revalidate >>= λ w. Ok (parts r.0 o.0 z w)) t.0 (Ok made) t.1
+      (bind_is revalidate (λ w. Ok (parts r.0 o.0 t.0 w)) v.0 (Ok made) v.1 refl))) in (
         whole made a.0,
-        goes_on (accepted_parts s c p) (λ q. accepted_act s (Do c.own) draft.act >>= λ b. Ok (whole q b)) made (Ok (whole made a.0)) passed
-            (goes_on (accepted_act s (Do c.own) draft.act) (λ b. Ok (whole made b)) a.0 (Ok (whole made a.0)) a.1 refl),
+        bind_is (accepted_parts s c p) (λ q. accepted_act s (Do c.own) draft.act >>= λ b. Ok (whole q b)) made (Ok (whole made a.0)) passed
+            (bind_is (accepted_act s (Do c.own) draft.act) (λ b. Ok (whole made b)) a.0 (Ok (whole made a.0)) a.1 refl),
       )
 
   -- ---- a source whose codes are accepted is not refused for one

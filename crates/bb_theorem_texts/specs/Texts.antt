@@ -24,7 +24,7 @@ use Rattle.bb_rules.specs.declared.source.Act.TheVariants as acts
 use Rattle.bb_rules.specs.declared.source.Reaction.{Reaction}
 use Rattle.bb_shell.specs.Accepting.{accepted_source}
 use Rattle.bb_shell.specs.InputFault.{InputFault}
-use Rattle.bb_shell.specs.Source.{Source}
+use Rattle.bb_rules.specs.Parts.{Source}
 use Rattle.bb_theorem_meaning.specs.Sources.{AreMeant, within_budget}
 
 -- this fault refuses one of the sources of a bundle

@@ -5,10 +5,10 @@ ghost use Rattle.std.specs.Prelude.{◌≡◌, ℕ, List, Ok, Err, Some, slice_g
 ghost use Rattle.bb_lang.specs.Sources.{sources_of as trees_of};
 ghost use Rattle.bb_lang.specs.SourceText.{SourceText};
 ghost use Rattle.bb_shell.specs.InputFault.TheVariants.{Verify};
-ghost use Rattle.bb_shell.specs.Source.{Source};
+ghost use Rattle.bb_rules.specs.Parts.{Source};
 ghost use Rattle.bb_shell.specs.Sources.{given};
 ghost use Rattle.bb_verify.specs.PartType.{Part};
-ghost use Rattle.bb_verify.specs.VerifyFault.{VerifyFault};
+ghost use Rattle.bb_code.specs.declared.flaw.VerifyFault.{VerifyFault};
 ghost use Rattle.bb_theorem_texts.specs.Texts.{IsRefusedInBundle, RunsAt};
 
 use bb_board::Board;

@@ -58,9 +58,9 @@ module _ (u : Units) (fits : Fits u) where
     units = λ n x is. at_new class n x (eq_by_cmp nat_cmp n u.next) there refl (sym (get-insert nat_cmp_total u.units u.next (new_unit u.layout class) n) ∙ is);
   }
 
-  kept : (n k : ℕ) (b : Bool) (x : Option Unit) → cond b None (get u.units n) ≡ x → is_some x ≡ true → get u.units n ≡ x
-  kept n k true x is live = absurd (let e : is_some x ≡ false = sym (ap is_some is) in let f : false ≡ true = sym e ∙ live in cc)
-  kept n k false x is live = is
+  get_without : (n k : ℕ) (b : Bool) (x : Option Unit) → cond b None (get u.units n) ≡ x → is_some x ≡ true → get u.units n ≡ x
+  get_without n k true x is live = absurd (let e : is_some x ≡ false = sym (ap is_some is) in let f : false ≡ true = sym e ∙ live in cc)
+  get_without n k false x is live = is
 
   fewer : (b : Bool) → cond b (len u.units - 1) (len u.units) ≤ UNIT_LIMIT
   fewer true = omega (arith, fits.few)
@@ -68,12 +68,12 @@ module _ (u : Units) (fits : Fits u) where
 
   pub deleted_fit : (k : ℕ) → Fits (after_delete u k)
   deleted_fit k = record {
-    numbers = λ n live. fits.numbers n (ap is_some (kept n k (eq_by_cmp nat_cmp n k) (get (remove u.units k) n) (sym (get-remove nat_cmp_total u.units k n)) live) ∙ live);
+    numbers = λ n live. fits.numbers n (ap is_some (get_without n k (eq_by_cmp nat_cmp n k) (get (remove u.units k) n) (sym (get-remove nat_cmp_total u.units k n)) live) ∙ live);
     begun = fits.begun;
     last = fits.last;
     few = rw (len-remove nat_cmp_total u.units k) (fewer (contains_key u.units k));
     defaults = fits.defaults;
-    units = λ n x is. fits.units n x (kept n k (eq_by_cmp nat_cmp n k) (get (remove u.units k) n) (sym (get-remove nat_cmp_total u.units k n)) (ap is_some is) ∙ is);
+    units = λ n x is. fits.units n x (get_without n k (eq_by_cmp nat_cmp n k) (get (remove u.units k) n) (sym (get-remove nat_cmp_total u.units k n)) (ap is_some is) ∙ is);
   }
 
   at_changed : (k n : ℕ) (y x : Unit) (b : Bool) → IsUnitOf u.layout y → eq_by_cmp nat_cmp n k ≡ b → cond b (Some y) (get u.units n) ≡ Some x → IsUnitOf u.layout x

@@ -22,8 +22,8 @@ no_key n (e ∷ es) above = by (n == e.0) refl (no_key n es above.1)
     by false other rest = rest
     by true same rest = absurd (let lt : n < e.0 = ranked n e.0 Less (sym above.0) in let eq : n ≡ e.0 = eqb-true n e.0 same in omega (arith, lt, eq))
 
-behind : (m n key : ℕ) (c : Option ℕ) (es : Entries) → AllByRecursion (λ k. nat_cmp n k ≡ Less) (keys_of es) → key_in m es ≡ Some key → key_in m ((n, c) ∷ es) ≡ Some key
-behind m n key c es above is = by (m == n) refl
+key_of_later : (m n key : ℕ) (c : Option ℕ) (es : Entries) → AllByRecursion (λ k. nat_cmp n k ≡ Less) (keys_of es) → key_in m es ≡ Some key → key_in m ((n, c) ∷ es) ≡ Some key
+key_of_later m n key c es above is = by (m == n) refl
   where
     by : (b : Bool) → (m == n) ≡ b → content (cond b (Some c) (lookup (λ k. m == k) es)) ≡ Some key
     by false other = is
@@ -36,8 +36,8 @@ held_by : (n : ℕ) (o : Option Unit) (es : List (ℕ × Option Unit)) → is_so
 held_by n None es there = absurd cc
 held_by n (Some x) es there = refl
 
-here : (n key : ℕ) (es : Entries) → key_in n ((n, Some key) ∷ es) ≡ Some key
-here n key es = by (n == n) (eq-eqb n n refl)
+key_of_first : (n key : ℕ) (es : Entries) → key_in n ((n, Some key) ∷ es) ≡ Some key
+key_of_first n key es = by (n == n) (eq-eqb n n refl)
   where
     by : (b : Bool) → b ≡ true → content (cond b (Some (Some key)) (lookup (λ k. n == k) es)) ≡ Some key
     by true same = refl
@@ -46,10 +46,10 @@ here n key es = by (n == n) (eq-eqb n n refl)
 numbers_held : (s : UnitSlab) (es : Entries) → Rise es → AreThere s es → keys_of (held (stored s es)) ≡ filter_map number_if_used es
 unfolding IsStrictlySortedBy
 numbers_held s [] rise there = refl
-numbers_held s ((n, None) ∷ es) rise there = numbers_held s es rise.1 (λ m key is. there m key (behind m n key None es rise.0 is))
+numbers_held s ((n, None) ∷ es) rise there = numbers_held s es rise.1 (λ m key is. there m key (key_of_later m n key None es rise.0 is))
 numbers_held s ((n, Some k) ∷ es) rise there =
-    held_by n (under s k) (stored s es) (there n k (here n k es))
-    ∙ ap (λ ns. n ∷ ns) (numbers_held s es rise.1 (λ m key is. there m key (behind m n key (Some k) es rise.0 is)))
+    held_by n (under s k) (stored s es) (there n k (key_of_first n k es))
+    ∙ ap (λ ns. n ∷ ns) (numbers_held s es rise.1 (λ m key is. there m key (key_of_later m n key (Some k) es rise.0 is)))
 
 each_used : (P : ℕ → Type 0) (es : Entries) → AllByRecursion P (keys_of es) → AllByRecursion P (filter_map number_if_used es)
 each_used P [] all = tt

@@ -4,7 +4,7 @@
 ghost use Rattle.std.specs.Prelude.{◌≡◌, IfOk};
 
 use bb_basis::Memory;
-use bb_schema::{SlotId, Value};
+use bb_schema_classes::{SlotId, Value};
 use std::alloc::Global;
 use std::marker::Model;
 use std::rc::Rc;

@@ -11,7 +11,8 @@ ghost use Rattle.bb_units.specs.proving.Blocks.{AreBlocks};
 use crate::block::Block;
 use crate::values::Values;
 use bb_basis::Memory;
-use bb_schema::{ClassId, Kind, LabelSetId, Schema, SlotId, Value};
+use bb_schema::Schema;
+use bb_schema_classes::{ClassId, Kind, LabelSetId, SlotId, Value};
 use std::alloc::Global;
 use std::marker::Model;
 

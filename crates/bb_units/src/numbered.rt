@@ -10,7 +10,8 @@ ghost use Rattle.bb_units.specs.proving.Numbered.{Rise, IsAt, place_in, key_in, 
 
 use crate::unit::Unit;
 use bb_basis::Memory;
-use bb_schema::{SlotId, UnitId, Value};
+use bb_schema::UnitId;
+use bb_schema_classes::{SlotId, Value};
 use slab::Slab;
 use std::alloc::Global;
 use std::marker::Model;

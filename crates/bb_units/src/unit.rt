@@ -1,7 +1,7 @@
 //! A live unit. `units.rt` stores each under its number.
 
 use crate::values::Values;
-use bb_schema::ClassId;
+use bb_schema_classes::ClassId;
 
 /// A unit: its class, and the value of each ordinary slot of its class.
 #[derive(Drop)]

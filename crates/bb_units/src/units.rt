@@ -13,7 +13,8 @@ use crate::layout::Layout;
 use crate::numbered::Numbered;
 use crate::unit::Unit;
 use bb_basis::Memory;
-use bb_schema::{ClassId, Schema, SlotId, UnitId, Value};
+use bb_schema::{Schema, UnitId};
+use bb_schema_classes::{ClassId, SlotId, Value};
 use std::alloc::Global;
 use std::marker::Model;
 

@@ -6,7 +6,7 @@ ghost use Rattle.bb_units.specs.Values.{place_of, value_at, with_value};
 
 use crate::block::Block;
 use bb_basis::Memory;
-use bb_schema::{SlotId, Value};
+use bb_schema_classes::{SlotId, Value};
 use std::alloc::Global;
 use std::marker::Model;
 use std::mem;

@@ -6,7 +6,7 @@ use Rattle.std.proofs.Math.Nat.{add-mul, pow-le-pow_left, pow-le-pow_right}
 use Rattle.std.proofs.lemmas.List.Elements.{All-head, All-tail, All-map, All-from_get_or}
 use Rattle.std.proofs.lemmas.List.FromFn.{sum_by-map-range_with_len_more, length-map-range_with_len, length-range_with_len, get_or-range_with_len}
 use Rattle.std.proofs.lemmas.List.Sums.{sum_by-cons}
-use Rattle.bb_verify_effect.specs.Code.{Code, places}
+use Rattle.bb_code.specs.Code.{Code, places}
 use Rattle.bb_verify.specs.nesting.Loops.{depth, loops}
 use Rattle.bb_verify.specs.Budget.{turns, budget}
 use Rattle.bb_verify.specs.proving.Depths.{depths_of, count_of, counts_of, budget_by}
@@ -58,8 +58,8 @@ at_one t (suc (suc (suc zero))) few = omega arith
 at_one t (suc (suc (suc (suc zero)))) few = omega arith
 at_one t (suc (suc (suc (suc (suc d))))) few = absurd (omega (arith, few))
 
-one_more : (t c now : ℕ → ℕ) (d : ℕ) → d ≤ 4 → ((k : ℕ) → now k ≡ cond (d == k) 1 0 + c k) → t d + by_depth t c ≡ by_depth t now
-one_more t c now d few is =
+by_depth_with_one : (t c now : ℕ → ℕ) (d : ℕ) → d ≤ 4 → ((k : ℕ) → now k ≡ cond (d == k) 1 0 + c k) → t d + by_depth t c ≡ by_depth t now
+by_depth_with_one t c now d few is =
     let at : (k : ℕ) → now k * t k ≡ cond (d == k) (t k) 0 + c k * t k = λ k. ap (λ n. n * t k) (is k) ∙ one_of (d == k) (c k) (t k) in
     omega (arith, at 0, at 1, at 2, at 3, at 4, at_one t d few)
 
@@ -68,7 +68,7 @@ each_once t [] few = omega arith
 each_once t (d ∷ ds) few =
     sum_by-cons t d ds
     ∙ (ap (λ n. t d + n) (each_once t ds (All-tail (λ (x : ℕ). x ≤ 4) d ds few))
-    ∙ one_more t (count_of ds) (count_of (d ∷ ds)) d (All-head (λ (x : ℕ). x ≤ 4) d ds few) (λ k. sum_by-cons (λ x. cond (x == k) 1 0) d ds))
+    ∙ by_depth_with_one t (count_of ds) (count_of (d ∷ ds)) d (All-head (λ (x : ℕ). x ≤ 4) d ds few) (λ k. sum_by-cons (λ x. cond (x == k) 1 0) d ds))
 
 five : (f : ℕ → ℕ) → sum_by f (range_with_len 0 5) ≡ f 0 + f 1 + f 2 + f 3 + f 4
 five f = omega arith

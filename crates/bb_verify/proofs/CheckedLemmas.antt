@@ -1,8 +1,8 @@
 -- A code that was accepted is accepted again, and the facts hold of it.
 use Rattle.std.proofs.Common.{◌≡◌, ◌≤◌, List, length, Ok, refl, sym, subst}
 use Rattle.bb_basis.proofs.ResultLemmas.{bind_ok, same_ok}
-use Rattle.bb_verify_effect.specs.Schema.{Schema}
-use Rattle.bb_verify_effect.specs.Code.{Code}
+use Rattle.bb_schema.specs.Schema.{Schema}
+use Rattle.bb_code.specs.Code.{Code}
 use Rattle.bb_verify_effect.specs.declared.frame.Frame.{Frame}
 use Rattle.bb_verify_effect.specs.declared.part.Part.{Part}
 use Rattle.bb_verify.specs.nesting.Jumps.{jumps}
@@ -24,14 +24,14 @@ module _ (s : Schema) (part : Part) (code : Code) (c : Checked) (h : checked s p
   abbrev with_frames : List Frame → Checked
   with_frames frames = record { code = code; part = part; frames = frames }
 
-  found : (frames : List Frame) × (accepted s part code ≡ Ok frames) × (with_frames frames ≡ c)
+  frames_accepted : (frames : List Frame) × (accepted s part code ≡ Ok frames) × (with_frames frames ≡ c)
   unfolding checked
-  found =
+  frames_accepted =
       let one = bind_ok (accepted s part code) _ c h in
       (one.0, one.1, same_ok (with_frames one.0) c one.2)
 
   pub checked_again : checked s c.part c.code ≡ Ok c
-  checked_again = subst (λ d. checked s d.part d.code ≡ Ok d) found.2 (subst (λ d. checked s part code ≡ Ok d) (sym found.2) h)
+  checked_again = subst (λ d. checked s d.part d.code ≡ Ok d) frames_accepted.2 (subst (λ d. checked s part code ≡ Ok d) (sym frames_accepted.2) h)
 
   pub checked_facts : 1 ≤ length code.ops → Facts s c.part c.code c.frames
-  checked_facts some = subst (λ d. Facts s d.part d.code d.frames) found.2 (facts_of s part code found.0 some found.1)
+  checked_facts some = subst (λ d. Facts s d.part d.code d.frames) frames_accepted.2 (facts_of s part code frames_accepted.0 some frames_accepted.1)

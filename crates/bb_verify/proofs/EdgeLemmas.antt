@@ -4,7 +4,7 @@ use Rattle.bb_basis.specs.Results.{◌>>=◌}
 use Rattle.bb_basis.proofs.ResultLemmas.{same_ok}
 use Rattle.bb_verify_effect.specs.Edges.{Edges}
 use Rattle.bb_verify_effect.specs.Effect.{on}
-use Rattle.bb_verify_effect.specs.Flaw.{Flaw}
+use Rattle.bb_code.specs.declared.flaw.Flaw.{Flaw}
 use Rattle.bb_verify_effect.specs.declared.frame.Frame.{Frame}
 
 pub edges_ok : (r : Result Edges Flaw) (e : Option Frame × Option Frame) → (r >>= λ x. Ok (x.on, x.target)) ≡ Ok e → (x : Edges) × (r ≡ Ok x) × ((x.on, x.target) ≡ e)

@@ -1,8 +1,8 @@
 -- The locals before the first op.
 use Rattle.std.proofs.Common.{◌≡◌, ℕ, ◌+◌, ◌-◌, ◌≤◌, ◌∷◌, set, replicate, ap, ◌∙◌, add-one, arith}
 use Rattle.bb_basis.proofs.NumberLemmas.{one_less}
-use Rattle.bb_verify_effect.specs.Kind.{Kind}
-use Rattle.bb_verify_effect.specs.Kind.TheVariants as kinds
+use Rattle.bb_code.specs.declared.frame.Kind.{Kind}
+use Rattle.bb_code.specs.declared.frame.Kind.TheVariants as kinds
 
 first_of : (n : ℕ) (k : Kind) → set (replicate (n + 1) kinds.Any) 0 k ≡ k ∷ replicate n kinds.Any
 first_of n k = ap (λ m. set (replicate m kinds.Any) 0 k) (add-one n)

@@ -1,8 +1,8 @@
 -- What holds at each place of an accepted code.
 use Rattle.std.proofs.Common.{◌≡◌, ◌≤◌, length, List, Ok}
 use Rattle.bb_basis.proofs.ResultLemmas.{bind_ok}
-use Rattle.bb_verify_effect.specs.Schema.{Schema}
-use Rattle.bb_verify_effect.specs.Code.{Code}
+use Rattle.bb_schema.specs.Schema.{Schema}
+use Rattle.bb_code.specs.Code.{Code}
 use Rattle.bb_verify_effect.specs.declared.frame.Frame.{Frame}
 use Rattle.bb_verify_effect.specs.declared.part.Part.{Part}
 use Rattle.bb_verify.specs.Tables.{tables}

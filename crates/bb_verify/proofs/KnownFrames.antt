@@ -5,15 +5,15 @@ use Rattle.std.proofs.lemmas.List.Elements.{All-nil, All-cons, All-head, All-tai
 use Rattle.std.proofs.lemmas.List.Sorted.{All-permutation, IsPermutation-reverse}
 use Rattle.std.proofs.lemmas.Option.{slice_get_within, get_or_from_slice_get}
 use Rattle.bb_basis.proofs.ResultLemmas.{bind_ok}
-use Rattle.bb_verify_effect.specs.Schema.{Schema}
-use Rattle.bb_verify_effect.specs.Code.{Code}
-use Rattle.bb_verify_effect.specs.FrameEntry.{FrameEntry}
-use Rattle.bb_verify_effect.specs.Kind.{Kind}
-use Rattle.bb_verify_effect.specs.Kind.TheVariants.{Any, Ref, Old}
+use Rattle.bb_schema.specs.Schema.{Schema}
+use Rattle.bb_code.specs.Code.{Code}
+use Rattle.bb_code.specs.declared.frame.FrameEntry.{FrameEntry}
+use Rattle.bb_code.specs.declared.frame.Kind.{Kind}
+use Rattle.bb_code.specs.declared.frame.Kind.TheVariants.{Any, Ref, Old}
 use Rattle.bb_schema.specs.Ownership.{strikes}
 use Rattle.bb_verify_effect.specs.declared.frame.Frame.{Frame}
 use Rattle.bb_verify_effect.specs.declared.part.Part.{Part}
-use Rattle.bb_verify_effect.specs.Each.{each}
+use Rattle.bb_code.specs.Each.{each}
 use Rattle.bb_verify.specs.Tables.{known_kind, known_entry, known_frame, tables}
 use Rattle.bb_verify_effect.specs.Effect.{after_delete}
 use Rattle.bb_verify_effect.specs.Frame.{frame_of}

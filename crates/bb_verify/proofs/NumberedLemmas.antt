@@ -3,7 +3,7 @@ use Rattle.std.proofs.Common.{◌≡◌, ℕ, zero, suc, ◌+◌, ◌<◌, List,
 use Rattle.std.specs.Prelude.{slice_get, option_map}
 use Rattle.std.proofs.lemmas.List.{map-set}
 use Rattle.std.proofs.lemmas.Option.{slice_get-get_or}
-use Rattle.bb_verify_effect.specs.FrameEntry.{FrameEntry}
+use Rattle.bb_code.specs.declared.frame.FrameEntry.{FrameEntry}
 use Rattle.bb_verify_effect.specs.declared.frame.Frame.{Frame}
 use Rattle.bb_verify_effect.specs.Frame.{frame_of}
 use Rattle.bb_verify.specs.Places.{with_frames}

@@ -4,12 +4,12 @@ use Rattle.std.specs.Prelude.{slice_get}
 use Rattle.std.proofs.lemmas.Option.{slice_get_within}
 use Rattle.bb_basis.specs.Results.{map_err}
 use Rattle.bb_basis.proofs.ResultLemmas.{bind_ok}
-use Rattle.bb_verify_effect.specs.Schema.{Schema}
-use Rattle.bb_verify_effect.specs.Code.{Code, places}
-use Rattle.bb_verify_effect.specs.Op.{Op}
+use Rattle.bb_schema.specs.Schema.{Schema}
+use Rattle.bb_code.specs.Code.{Code, places}
+use Rattle.bb_code.specs.declared.op.Op.{Op}
 use Rattle.bb_verify_effect.specs.declared.part.Part.{Part}
-use Rattle.bb_verify_effect.specs.Each.{each}
-use Rattle.bb_verify_effect.specs.Flaws.{fault_at}
+use Rattle.bb_code.specs.Each.{each}
+use Rattle.bb_code.specs.Flaws.{fault_at}
 use Rattle.bb_verify.specs.Tables.{in_tables, table_at, tables}
 use Rattle.bb_verify.specs.nesting.Jumps.{check_target, jump_at, jumps}
 use Rattle.bb_verify.specs.nesting.Loops.{loop_at, lowest_outside, none_outside, loops}

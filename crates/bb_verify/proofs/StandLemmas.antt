@@ -6,13 +6,13 @@ use Rattle.std.proofs.lemmas.List.{length-set, length-replicate}
 use Rattle.std.proofs.lemmas.Option.{slice_get_within}
 use Rattle.bb_basis.specs.Results.{◌>>=◌}
 use Rattle.bb_basis.proofs.ResultLemmas.{guard_ok}
-use Rattle.bb_verify_effect.specs.Schema.{Schema}
-use Rattle.bb_verify_effect.specs.Code.{Code}
-use Rattle.bb_verify_effect.specs.FrameEntry.{FrameEntry}
-use Rattle.bb_verify_effect.specs.Op.{Op}
+use Rattle.bb_schema.specs.Schema.{Schema}
+use Rattle.bb_code.specs.Code.{Code}
+use Rattle.bb_code.specs.declared.frame.FrameEntry.{FrameEntry}
+use Rattle.bb_code.specs.declared.op.Op.{Op}
 use Rattle.bb_verify_effect.specs.Edges.{Edges}
-use Rattle.bb_verify_effect.specs.Flaw.{Flaw}
-use Rattle.bb_verify_effect.specs.Flaw.TheVariants as flaws
+use Rattle.bb_code.specs.declared.flaw.Flaw.{Flaw}
+use Rattle.bb_code.specs.declared.flaw.Flaw.TheVariants as flaws
 use Rattle.bb_verify_effect.specs.declared.frame.Frame.{Frame}
 use Rattle.bb_verify_effect.specs.declared.part.Part.{Part}
 use Rattle.bb_verify_effect.specs.Kinds.{frame_weakens}
@@ -57,8 +57,8 @@ came s (Some d) g f at due = inr (subst (λ (x : Frame). frame_weakens s g x ≡
 went_on : (count place : ℕ) (g : Frame) → has_next count place (Some g) ≡ Ok tt → place < count
 went_on count place g h = let e = guard_ok (nat_le count place) flaws.End (Ok tt) tt h in let test = e.0 in grind (arith, nat_tests)
 
-later : (s : Schema) (h : Frame) (fs : List Frame) (p n : ℕ) (g : Frame) → n ≡ suc p → StandsAt s fs p g → StandsAt s (h ∷ fs) n g
-later s h fs p n g is at = (at.0, ap (slice_get (h ∷ fs)) is ∙ at.1, at.2)
+stands_later : (s : Schema) (h : Frame) (fs : List Frame) (p n : ℕ) (g : Frame) → n ≡ suc p → StandsAt s fs p g → StandsAt s (h ∷ fs) n g
+stands_later s h fs p n g is at = (at.0, ap (slice_get (h ∷ fs)) is ∙ at.1, at.2)
 
 first_stands : (s : Schema) (part : Part) (code : Code) (declared : List (Option Frame)) (place : ℕ) (g : Frame) (fs : List Frame) → 1 ≤ length fs → Chain s part code declared place (Some g) fs
     → on_due s (Some g) (declared_at declared place) ≡ Ok tt → StandsAt s fs 0 g
@@ -79,7 +79,7 @@ first_on s part code declared place next h fs v long chain g is =
     let more : place + 1 < length code.ops = went_on (length code.ops) (place + 1) g (subst (λ (o : Option Frame). has_next (length code.ops) (place + 1) o ≡ Ok tt) is v.more) in
     let due : on_due s (Some g) (declared_at declared (place + 1)) ≡ Ok tt = subst (λ (o : Option Frame). on_due s o (declared_at declared (place + 1)) ≡ Ok tt) is v.on in
     let others : Chain s part code declared (place + 1) (Some g) fs = subst (λ (o : Option Frame). Chain s part code declared (place + 1) o fs) is chain in
-    later s h fs 0 (0 + 1) g (add-one 0) (first_stands s part code declared (place + 1) g fs (omega (arith, more, long)) others due)
+    stands_later s h fs 0 (0 + 1) g (add-one 0) (first_stands s part code declared (place + 1) g fs (omega (arith, more, long)) others due)
 
 chain_leaves : (s : Schema) (part : Part) (code : Code) (declared : List (Option Frame)) (frames : List Frame) (place : ℕ) (next : Option Frame) (i : ℕ) (op : Op) (f : Frame)
     → place + length frames ≡ length code.ops → Chain s part code declared place next frames → slice_get frames i ≡ Some f → slice_get code.ops (place + i) ≡ Some op
@@ -100,7 +100,7 @@ chain_leaves s part code declared (h ∷ fs) place next zero op f long chain at 
     subst (λ (o : Op). Left s part code declared (h ∷ fs) 0 o f) own (subst (λ (x : Frame). Left s part code declared (h ∷ fs) 0 v.op x) same first)
 chain_leaves s part code declared (h ∷ fs) place next (suc i) op f long chain at here =
     let rest = chain_leaves s part code declared fs (place + 1) chain.0.edges.on i op f (omega (arith, long)) chain.1 at (ap (slice_get code.ops) (omega arith) ∙ here) in
-    record { edges = rest.edges; does = rest.does; on = λ g is. later s h fs (i + 1) (suc i + 1) g (omega arith) (rest.on g is); target = rest.target }
+    record { edges = rest.edges; does = rest.does; on = λ g is. stands_later s h fs (i + 1) (suc i + 1) g (omega arith) (rest.on g is); target = rest.target }
 
 -- ---- the frames that are declared are those of their places
 

@@ -6,15 +6,15 @@ use Rattle.std.proofs.lemmas.Bool.Decides.{nat_tests}
 use Rattle.std.proofs.lemmas.Bool.{or_right}
 use Rattle.bb_basis.specs.Results.{map_err}
 use Rattle.bb_basis.proofs.ResultLemmas.{bind_ok, guard_ok}
-use Rattle.bb_verify_effect.specs.Schema.{Schema}
-use Rattle.bb_verify_effect.specs.Code.{Code, places}
-use Rattle.bb_verify_effect.specs.FrameEntry.{FrameEntry}
-use Rattle.bb_verify_effect.specs.Flaw.{Flaw}
-use Rattle.bb_verify_effect.specs.Flaw.TheVariants.{Table}
+use Rattle.bb_schema.specs.Schema.{Schema}
+use Rattle.bb_code.specs.Code.{Code, places}
+use Rattle.bb_code.specs.declared.frame.FrameEntry.{FrameEntry}
+use Rattle.bb_code.specs.declared.flaw.Flaw.{Flaw}
+use Rattle.bb_code.specs.declared.flaw.Flaw.TheVariants.{Table}
 use Rattle.bb_verify_effect.specs.declared.frame.Frame.{Frame}
 use Rattle.bb_verify_effect.specs.declared.part.Part.{Part}
-use Rattle.bb_verify_effect.specs.Each.{each}
-use Rattle.bb_verify_effect.specs.Flaws.{fault_at}
+use Rattle.bb_code.specs.Each.{each}
+use Rattle.bb_code.specs.Flaws.{fault_at}
 use Rattle.bb_verify_effect.specs.Part.{units_of}
 use Rattle.bb_verify.specs.Tables.{places_rise, known_frame, enough_locals, frames_in_order, fit_version, table_at, tables}
 use Rattle.bb_verify_effect.specs.Frame.{frame_of}

@@ -6,14 +6,14 @@ use Rattle.std.proofs.lemmas.List.{append-nil, append_assoc}
 use Rattle.std.proofs.lemmas.Option.{slice_get-get_or}
 use Rattle.bb_basis.specs.Results.{map_err, try_fold}
 use Rattle.bb_basis.proofs.ResultLemmas.{bind_ok, same_ok}
-use Rattle.bb_verify_effect.specs.Schema.{Schema}
-use Rattle.bb_verify_effect.specs.Code.{Code, places}
-use Rattle.bb_verify_effect.specs.Op.{Op}
-use Rattle.bb_verify_effect.specs.Op.TheVariants as ops
+use Rattle.bb_schema.specs.Schema.{Schema}
+use Rattle.bb_code.specs.Code.{Code, places}
+use Rattle.bb_code.specs.declared.op.Op.{Op}
+use Rattle.bb_code.specs.declared.op.Op.TheVariants as ops
 use Rattle.bb_verify_effect.specs.Edges.{Edges}
 use Rattle.bb_verify_effect.specs.declared.frame.Frame.{Frame}
 use Rattle.bb_verify_effect.specs.declared.part.Part.{Part}
-use Rattle.bb_verify_effect.specs.Flaws.{fault_at}
+use Rattle.bb_code.specs.Flaws.{fault_at}
 use Rattle.bb_verify_effect.specs.Effect.{effect}
 use Rattle.bb_verify.specs.Places.{Walk, declared_at, declared_for, declared_frames, entry_frame, frame_at, has_next, on_due, target_due, one_more, visit_op, visit, first_walk, frames_of}
 use Rattle.bb_verify_effect.proofs.Laws.{no_fault}

@@ -1,9 +1,9 @@
 -- Which codes are accepted for a part of a source (of this project).
 use Rattle.std.specs.Prelude.{◌≡◌, List, Result, Ok}
 use Rattle.bb_basis.specs.Results.{◌>>=◌}
-use Rattle.bb_verify_effect.specs.Schema.{Schema}
-use Rattle.bb_verify_effect.specs.Code.{Code, IsCode}
-use Rattle.bb_verify_effect.specs.VerifyFault.{VerifyFault}
+use Rattle.bb_schema.specs.Schema.{Schema}
+use Rattle.bb_code.specs.Code.{Code, IsCode}
+use Rattle.bb_code.specs.declared.flaw.VerifyFault.{VerifyFault}
 use Rattle.bb_verify_effect.specs.declared.frame.Frame.{Frame}
 use Rattle.bb_verify_effect.specs.declared.part.Part.{Part}
 use Rattle.bb_verify.specs.Tables.{tables}

@@ -1,7 +1,7 @@
 -- The step budget: the maximum number of steps of an execution of a code (of this project).
 use Rattle.std.specs.Prelude.{ℕ, ◌+◌, ◌^◌}
 use Rattle.std.specs.List.{sum_by}
-use Rattle.bb_verify_effect.specs.Code.{Code, places}
+use Rattle.bb_code.specs.Code.{Code, places}
 use Rattle.bb_verify.specs.nesting.Loops.{depth}
 
 -- how often a place can be executed, if `loops` loops hold it and no sequence has more than m units

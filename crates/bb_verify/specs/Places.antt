@@ -2,17 +2,17 @@
 use Rattle.std.specs.Prelude.{ℕ, ◌+◌, ◌-◌, nat_le, List, [], ◌∷◌, ◌++◌, length, replicate, set, slice_get}
 use Rattle.std.specs.Prelude.{Option, Some, None, option_and_then, Result, Ok, Err, if◌then◌else◌}
 use Rattle.bb_basis.specs.Results.{◌>>=◌, ok_or, map_err, try_fold}
-use Rattle.bb_verify_effect.specs.Schema.{Schema}
-use Rattle.bb_verify_effect.specs.Code.{Code, places}
-use Rattle.bb_verify_effect.specs.FrameEntry.{FrameEntry}
-use Rattle.bb_verify_effect.specs.Kind.TheVariants.{Any}
-use Rattle.bb_verify_effect.specs.Op.{Op}
-use Rattle.bb_verify_effect.specs.Flaw.{Flaw}
-use Rattle.bb_verify_effect.specs.Flaw.TheVariants as flaws
-use Rattle.bb_verify_effect.specs.VerifyFault.{VerifyFault}
+use Rattle.bb_schema.specs.Schema.{Schema}
+use Rattle.bb_code.specs.Code.{Code, places}
+use Rattle.bb_code.specs.declared.frame.FrameEntry.{FrameEntry}
+use Rattle.bb_code.specs.declared.frame.Kind.TheVariants.{Any}
+use Rattle.bb_code.specs.declared.op.Op.{Op}
+use Rattle.bb_code.specs.declared.flaw.Flaw.{Flaw}
+use Rattle.bb_code.specs.declared.flaw.Flaw.TheVariants as flaws
+use Rattle.bb_code.specs.declared.flaw.VerifyFault.{VerifyFault}
 use Rattle.bb_verify_effect.specs.declared.frame.Frame.{Frame}
 use Rattle.bb_verify_effect.specs.declared.part.Part.{Part}
-use Rattle.bb_verify_effect.specs.Flaws.{fault_at}
+use Rattle.bb_code.specs.Flaws.{fault_at}
 use Rattle.bb_verify_effect.specs.Part.{units_of}
 use Rattle.bb_verify_effect.specs.Frame.{frame_of}
 use Rattle.bb_verify_effect.specs.Kinds.{frame_weakens}

@@ -5,19 +5,19 @@ use Rattle.bb_basis.specs.Results.{◌>>=◌, map_err}
 use Rattle.bb_schema.specs.Ownership.{owns_any}
 use Rattle.bb_code.specs.declared.version.Version.{Version}
 use Rattle.bb_code.specs.declared.version.Version.TheVariants.{One, Two}
-use Rattle.bb_verify_effect.specs.Schema.{Schema, name_of_label}
-use Rattle.bb_verify_effect.specs.Code.{Code, places}
-use Rattle.bb_verify_effect.specs.FrameEntry.{FrameEntry}
-use Rattle.bb_verify_effect.specs.Kind.{Kind}
-use Rattle.bb_verify_effect.specs.Kind.TheVariants.{Any, Label, Ref, Old, Seq}
-use Rattle.bb_verify_effect.specs.Op.{Op}
-use Rattle.bb_verify_effect.specs.Op.TheVariants as ops
-use Rattle.bb_verify_effect.specs.Flaw.{Flaw}
-use Rattle.bb_verify_effect.specs.Flaw.TheVariants.{Table}
-use Rattle.bb_verify_effect.specs.VerifyFault.{VerifyFault}
+use Rattle.bb_schema.specs.Schema.{Schema, name_of_label}
+use Rattle.bb_code.specs.Code.{Code, places}
+use Rattle.bb_code.specs.declared.frame.FrameEntry.{FrameEntry}
+use Rattle.bb_code.specs.declared.frame.Kind.{Kind}
+use Rattle.bb_code.specs.declared.frame.Kind.TheVariants.{Any, Label, Ref, Old, Seq}
+use Rattle.bb_code.specs.declared.op.Op.{Op}
+use Rattle.bb_code.specs.declared.op.Op.TheVariants as ops
+use Rattle.bb_code.specs.declared.flaw.Flaw.{Flaw}
+use Rattle.bb_code.specs.declared.flaw.Flaw.TheVariants.{Table}
+use Rattle.bb_code.specs.declared.flaw.VerifyFault.{VerifyFault}
 use Rattle.bb_verify_effect.specs.declared.part.Part.{Part}
-use Rattle.bb_verify_effect.specs.Each.{each}
-use Rattle.bb_verify_effect.specs.Flaws.{fault_at}
+use Rattle.bb_code.specs.Each.{each}
+use Rattle.bb_code.specs.Flaws.{fault_at}
 use Rattle.bb_verify_effect.specs.Part.{units_of}
 
 -- a table of `count` entries has one of this number

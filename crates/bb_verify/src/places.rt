@@ -2,12 +2,12 @@
 
 ghost use Rattle.std.specs.Prelude.{◌≡◌, ◌≤◌, ◌-◌, ◌∷◌, ◌++◌, IfOk, IfSome, None, Ok, Some, length, option_map, replicate, set};
 ghost use Rattle.bb_basis.specs.Results.{Gives, try_fold};
-ghost use Rattle.bb_verify_effect.specs.Limits.{LOCAL_LIMIT, STACK_LIMIT};
-ghost use Rattle.bb_verify_effect.specs.Kind.TheVariants.{Any, Old};
-ghost use Rattle.bb_verify_effect.specs.Flaws.{out_of_memory};
-ghost use Rattle.bb_verify_effect.specs.Flaw.TheVariants.{Memory};
+ghost use Rattle.bb_code.specs.declared.parts.TheConstants.{LOCAL_LIMIT, STACK_LIMIT};
+ghost use Rattle.bb_code.specs.declared.frame.Kind.TheVariants.{Any, Old};
+ghost use Rattle.bb_code.specs.Flaws.{out_of_memory};
+ghost use Rattle.bb_code.specs.declared.flaw.Flaw.TheVariants.{Memory};
 ghost use Rattle.bb_verify_effect.specs.Part.{units_of};
-ghost use Rattle.bb_verify_effect.specs.Code.{places};
+ghost use Rattle.bb_code.specs.Code.{places};
 ghost use Rattle.bb_verify.specs.proving.Numbered.{numbered_frame, numbered_frames, frames_by};
 ghost use Rattle.bb_verify.specs.proving.Passes.{left_by, walk_of};
 ghost use Rattle.bb_code.specs.Answers.{map_ok};
@@ -16,10 +16,9 @@ ghost use Rattle.bb_verify_effect.specs.Frame.{frame_of};
 
 use crate::nesting::target_of;
 use crate::pass::Pass;
-use bb_verify_effect::{
-    ClassId, Code, DeclaredFrame as Declared, Flaw, Frame, FrameEntry, Kind, Locals, Op,
-    PackedFrames, Part, Place, Schema, Stack, VerifyFault, effect, frame_weakens,
-};
+use bb_code::{Code, Flaw, Frame as Declared, FrameEntry, Kind, Op, Place, VerifyFault};
+use bb_schema::Schema;
+use bb_verify_effect::{ClassId, Frame, Locals, PackedFrames, Part, Stack, effect, frame_weakens};
 use std::alloc::{AllocError, Global};
 
 // A code, and for each place the number of the frame that is declared there.

@@ -1,15 +1,13 @@
 //! The first phase of the verifier: the tables of a code, and the operands that index them.
 
 ghost use Rattle.std.specs.Prelude.{◌≡◌};
-ghost use Rattle.bb_verify_effect.specs.Each.{each};
-ghost use Rattle.bb_verify.specs.Tables.{entry, known_kind, known_entry, known_frame, places_rise, enough_locals};
-ghost use Rattle.bb_verify.specs.Tables.{frames_in_order, fit_version, known_label, in_tables, table_at, tables};
-ghost use Rattle.bb_verify_effect.specs.Code.{places};
+ghost use Rattle.bb_code.specs.Each.{each};
+ghost use Rattle.bb_verify.specs.Tables.{entry, known_kind, known_entry, known_frame, places_rise, enough_locals, frames_in_order, fit_version, known_label, in_tables, table_at, tables};
+ghost use Rattle.bb_code.specs.Code.{places};
 
-use bb_code::Version;
-use bb_verify_effect::{
-    Code, Flaw, FrameEntry, Kind, LabelId, LabelSetId, Op, Part, Place, Schema, VerifyFault,
-};
+use bb_code::{Code, Flaw, FrameEntry, Kind, Op, Place, VerifyFault, Version};
+use bb_schema::Schema;
+use bb_verify_effect::{LabelId, LabelSetId, Part};
 
 // Checks that a table of `count` entries has one of this number.
 fn entry(count: usize, number: usize) -> Result<(), Flaw>

@@ -4,13 +4,15 @@ ghost use Rattle.std.specs.Prelude.{◌≡◌, IfOk, Ok};
 ghost use Rattle.bb_basis.specs.Results.{Gives};
 ghost use Rattle.bb_verify.specs.Accepted.{checked};
 ghost use Rattle.bb_verify.specs.Facts.{Facts};
-ghost use Rattle.bb_verify_effect.specs.Flaws.{out_of_memory};
+ghost use Rattle.bb_code.specs.Flaws.{out_of_memory};
 
 use crate::checked::{Checked, counts_of};
 use crate::nesting::{check_jumps, check_loops};
 use crate::places::frames_of;
 use crate::tables::check_tables;
-use bb_verify_effect::{Code, Part, Schema, VerifyFault};
+use bb_code::{Code, VerifyFault};
+use bb_schema::Schema;
+use bb_verify_effect::Part;
 use std::alloc::Global;
 
 /// Accepts a code for a part of a source, or returns its first fault: of the tables, of the jumps, of the loops, then

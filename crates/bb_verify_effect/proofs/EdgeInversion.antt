@@ -3,7 +3,7 @@ use Rattle.std.proofs.Common.{◌≡◌, ℕ, false, List, ◌∷◌, Some, None
 use Rattle.bb_basis.specs.Results.{◌>>=◌}
 use Rattle.bb_basis.proofs.ResultLemmas.{bind_ok, same_ok}
 use Rattle.bb_schema_classes.specs.declared.kind.Link.{Link}
-use Rattle.bb_code.specs.Schema.{Schema}
+use Rattle.bb_schema.specs.Schema.{Schema}
 use Rattle.bb_code.specs.declared.frame.Kind.{Kind}
 use Rattle.bb_code.specs.declared.frame.Kind.TheVariants.{Int, Bool as Truth, Ref, Seq}
 use Rattle.bb_code.specs.declared.flaw.Flaw.{Flaw}

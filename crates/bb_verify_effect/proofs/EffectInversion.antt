@@ -5,8 +5,8 @@ use Rattle.std.proofs.lemmas.Bool.{eqb-true}
 use Rattle.bb_basis.specs.Results.{ok_or}
 use Rattle.bb_basis.proofs.ResultLemmas.{bind_ok, ok_or_ok, same_ok}
 use Rattle.bb_schema_classes.specs.declared.kind.Link.{Link}
-use Rattle.bb_code.specs.Schema.{Schema, descends}
-use Rattle.bb_code.specs.Spaces.{allowed}
+use Rattle.bb_schema.specs.Schema.{Schema, descends}
+use Rattle.bb_schema.specs.Spaces.{allowed}
 use Rattle.bb_code.specs.Code.{Code}
 use Rattle.bb_code.specs.Query.{Query}
 use Rattle.bb_code.specs.declared.frame.Kind.{Kind}
@@ -17,10 +17,8 @@ use Rattle.bb_verify_effect.specs.declared.part.Part.{Part}
 use Rattle.bb_code.specs.Each.{each}
 use Rattle.bb_verify_effect.specs.Part.{writes}
 use Rattle.bb_verify_effect.specs.Frame.{with_stack, with_local, local_at, room, enough, top, without, push}
-use Rattle.bb_verify_effect.specs.Due.{due, label_of, class_of, live, sequence_of, copy_of, sayable, operands_due, plain_slot}
-use Rattle.bb_verify_effect.specs.Due.{link_slot, value_due, partner_due, space_due, known_space, query_due}
-use Rattle.bb_verify_effect.specs.Effect.{load, store_local, drop_one, turn, combine, eq_label, eq_unit, get, links, find, size}
-use Rattle.bb_verify_effect.specs.Effect.{new_unit, set_slot, relink, enter, leave, after_delete, delete, say}
+use Rattle.bb_verify_effect.specs.Due.{due, label_of, class_of, live, sequence_of, copy_of, sayable, operands_due, plain_slot, link_slot, value_due, partner_due, space_due, known_space, query_due}
+use Rattle.bb_verify_effect.specs.Effect.{load, store_local, drop_one, turn, combine, eq_label, eq_unit, get, links, find, size, new_unit, set_slot, relink, enter, leave, after_delete, delete, say}
 use Rattle.bb_verify_effect.proofs.DueInversion.{test_ok, due_ok, label_of_ok, sequence_of_ok, live_ok, value_due_ok}
 use Rattle.bb_verify_effect.proofs.FrameInversion.{Pushed, push_ok, pop_ok, pop_two_ok, pop_live_ok, enough_ok}
 

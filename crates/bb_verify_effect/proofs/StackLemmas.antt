@@ -61,9 +61,9 @@ reverse_map f (x ∷ xs) =
 
 -- ---- two stacks compared entry by entry, from either end
 
-later : (a b c : Bool) → (a && (b && c)) ≡ ((a && b) && c)
-later true b c = refl
-later false b c = refl
+and_grouped : (a b c : Bool) → (a && (b && c)) ≡ ((a && b) && c)
+and_grouped true b c = refl
+and_grouped false b c = refl
 
 pointwise_snoc : (w : Kind → Kind → Bool) (xs ys : List Kind) (x y : Kind) → pointwise w (xs ++ x ∷ []) (ys ++ y ∷ []) ≡ (pointwise w xs ys && w x y)
 pointwise_snoc w [] [] x y = and_true (w x y)
@@ -71,7 +71,7 @@ pointwise_snoc w [] (b ∷ []) x y = and_false (w x b)
 pointwise_snoc w [] (b ∷ c ∷ ys) x y = and_false (w x b)
 pointwise_snoc w (a ∷ []) [] x y = and_false (w a y)
 pointwise_snoc w (a ∷ c ∷ xs) [] x y = and_false (w a y)
-pointwise_snoc w (a ∷ xs) (b ∷ ys) x y = ap (λ r. w a b && r) (pointwise_snoc w xs ys x y) ∙ later (w a b) (pointwise w xs ys) (w x y)
+pointwise_snoc w (a ∷ xs) (b ∷ ys) x y = ap (λ r. w a b && r) (pointwise_snoc w xs ys x y) ∙ and_grouped (w a b) (pointwise w xs ys) (w x y)
 
 swap : (a b : Bool) → (a && b) ≡ (b && a)
 swap true true = refl

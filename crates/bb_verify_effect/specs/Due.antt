@@ -6,8 +6,8 @@ use Rattle.bb_basis.specs.Results.{◌>>=◌, ok_or}
 use Rattle.bb_schema_classes.specs.declared.kind.Kind.{Kind as SlotKind}
 use Rattle.bb_schema_classes.specs.declared.kind.Kind.TheVariants as slots
 use Rattle.bb_schema_classes.specs.declared.kind.Link.{Link}
-use Rattle.bb_code.specs.Schema.{Schema, descends, owner_of, kind_of_slot}
-use Rattle.bb_code.specs.Spaces.{allowed}
+use Rattle.bb_schema.specs.Schema.{Schema, descends, owner_of, kind_of_slot}
+use Rattle.bb_schema.specs.Spaces.{allowed}
 use Rattle.bb_code.specs.Fits.{query_fits}
 use Rattle.bb_code.specs.Query.{Query}
 use Rattle.bb_code.specs.OperandKind.{OperandKind}

@@ -4,7 +4,7 @@
 -- blackboard; whether the part may end with it.
 use Rattle.std.specs.Prelude.{ℕ, length, map, slice_get, Some, None, ◌==◌, Result, Ok, Err, if◌then◌else◌}
 use Rattle.bb_basis.specs.Results.{◌>>=◌, ok_or}
-use Rattle.bb_code.specs.Schema.{Schema}
+use Rattle.bb_schema.specs.Schema.{Schema}
 use Rattle.bb_code.specs.Code.{Code}
 use Rattle.bb_code.specs.declared.frame.Kind.{Kind}
 use Rattle.bb_code.specs.declared.frame.Kind.TheVariants.{Int, Text, Bool as Truth, Label, Interval, Ref, Seq}
@@ -18,8 +18,7 @@ use Rattle.bb_verify_effect.specs.declared.part.Part.{Part}
 use Rattle.bb_code.specs.Each.{each}
 use Rattle.bb_verify_effect.specs.Part.{writes, ends_done, ends_rated, ends_answered}
 use Rattle.bb_verify_effect.specs.Frame.{pop, pop_two, enough, top, without, room, push, local_at, with_local}
-use Rattle.bb_verify_effect.specs.Due.{due, label_of, class_of, live, sequence_of, copy_of, sayable, operands_due, plain_slot}
-use Rattle.bb_verify_effect.specs.Due.{link_slot, single_slot, value_due, partner_due, space_due, known_space, query_due}
+use Rattle.bb_verify_effect.specs.Due.{due, label_of, class_of, live, sequence_of, copy_of, sayable, operands_due, plain_slot, link_slot, single_slot, value_due, partner_due, space_due, known_space, query_due}
 use Rattle.bb_verify_effect.specs.Kinds.{struck}
 
 -- ---- locals and plain values

@@ -3,7 +3,7 @@
 use Rattle.std.specs.Prelude.{ℕ, Bool, true, false, ◌==◌, ◌&&◌, if◌then◌else◌}
 use Rattle.std.specs.Cmp.Lexicographic.{pointwise}
 use Rattle.bb_schema.specs.Ownership.{strikes}
-use Rattle.bb_code.specs.Schema.{Schema, descends}
+use Rattle.bb_schema.specs.Schema.{Schema, descends}
 use Rattle.bb_code.specs.declared.frame.Kind.{Kind}
 use Rattle.bb_code.specs.declared.frame.Kind.TheVariants.{Any, Int, Text, Bool as Truth, Label, Interval, Ref, Old, Seq}
 use Rattle.bb_verify_effect.specs.declared.frame.Frame.{Frame}

@@ -7,7 +7,9 @@ ghost use Rattle.bb_verify_effect.specs.Kinds.{is_same_plain, weakens, weakens_l
 ghost use Rattle.bb_verify_effect.specs.Frame.{frame_of};
 
 use crate::frame::Frame;
-use bb_code::{ClassId, Frame as Declared, Kind, Schema};
+use bb_code::{Frame as Declared, Kind};
+use bb_schema::Schema;
+use bb_schema_classes::ClassId;
 
 /// Returns whether two kinds are equal and neither units nor sequences.
 pub fn is_same_plain(kind: Kind, other: Kind) -> bool

@@ -6,7 +6,9 @@ ghost use Rattle.bb_code.specs.declared.frame.Kind.TheVariants.{Any};
 ghost use Rattle.bb_verify_effect.specs.Kinds.{struck};
 
 use crate::kind::{mark_stale, put_front};
-use bb_code::{ClassId, Kind, LOCAL_LIMIT, Schema};
+use bb_code::{Kind, LOCAL_LIMIT};
+use bb_schema::Schema;
+use bb_schema_classes::ClassId;
 use std::marker::Model;
 
 /// The kinds of at most `LOCAL_LIMIT` locals. Contracts see them as a list.

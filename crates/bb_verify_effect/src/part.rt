@@ -3,7 +3,8 @@
 ghost use Rattle.std.specs.Prelude.{◌≡◌, length};
 ghost use Rattle.bb_verify_effect.specs.Part.{units_of, part_word, writes, ends_done, ends_rated, ends_answered};
 
-use bb_code::{ClassId, Flaw};
+use bb_code::Flaw;
+use bb_schema_classes::ClassId;
 
 /// The part of a source that a code is for. `class`: the class of the activation's unit; `of`: of the event's unit.
 #[derive(Clone, Copy, Debug, PartialEq, Eq)]

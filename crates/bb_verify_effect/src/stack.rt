@@ -6,7 +6,9 @@ ghost use Rattle.bb_verify_effect.specs.Kinds.{struck};
 ghost use Rattle.bb_verify_effect.specs.Stack.{newest};
 
 use crate::kind::{mark_stale, put_front};
-use bb_code::{ClassId, Kind, STACK_LIMIT, Schema};
+use bb_code::{Kind, STACK_LIMIT};
+use bb_schema::Schema;
+use bb_schema_classes::ClassId;
 use std::marker::Model;
 
 /// The kinds of at most `STACK_LIMIT` entries. Contracts see them as a list, the newest first.

@@ -24,8 +24,8 @@ Entries = List (ℕ × Focus)
 zero_more : (z : ℤ) → z ≡ pos 0 +ℤ z
 zero_more z = omega (arith, ints)
 
-turned : (a b : ℤ) → a +ℤ b ≡ b +ℤ a
-turned a b = omega (arith, ints)
+add_swapped : (a b : ℤ) → a +ℤ b ≡ b +ℤ a
+add_swapped a b = omega (arith, ints)
 
 first_kept : (a b c d : ℤ) → a +ℤ b ≡ c → (d +ℤ a) +ℤ b ≡ d +ℤ c
 first_kept a b c d is = omega (arith, ints, is)
@@ -61,14 +61,14 @@ module _ (p : Focus → Bool) where
   by_test true focus fs = refl
   by_test false focus fs = zero_more (total_weight fs)
 
-  one_more : (e : ℕ × Focus) (es : Entries) → sum_of (e ∷ es) ≡ part_of p (Some e.1) +ℤ sum_of es
-  one_more e es = by_test (p e.1) e.1 (filter p (values_of es))
+  sum_with_one : (e : ℕ × Focus) (es : Entries) → sum_of (e ∷ es) ≡ part_of p (Some e.1) +ℤ sum_of es
+  sum_with_one e es = by_test (p e.1) e.1 (filter p (values_of es))
 
   taken_by : (t : Bool) (e : ℕ × Focus) (es left : Entries) (found : Option Focus) → sum_of left +ℤ part_of p found ≡ sum_of es
       → sum_of (cond t es (e ∷ left)) +ℤ part_of p (cond t (Some e.1) found) ≡ sum_of (e ∷ es)
-  taken_by true e es left found is = turned (sum_of es) (part_of p (Some e.1)) ∙ sym (one_more e es)
+  taken_by true e es left found is = add_swapped (sum_of es) (part_of p (Some e.1)) ∙ sym (sum_with_one e es)
   taken_by false e es left found is =
-      ap (λ z. z +ℤ part_of p found) (one_more e left) ∙ first_kept (sum_of left) (part_of p found) (sum_of es) (part_of p (Some e.1)) is ∙ sym (one_more e es)
+      ap (λ z. z +ℤ part_of p found) (sum_with_one e left) ∙ first_kept (sum_of left) (part_of p found) (sum_of es) (part_of p (Some e.1)) is ∙ sym (sum_with_one e es)
 
   -- one is gone
   pub sum_without : (q : ℕ → Bool) (es : Entries) → sum_of (remove_entry q es) +ℤ part_of p (lookup q es) ≡ sum_of es
@@ -79,19 +79,19 @@ module _ (p : Focus → Bool) where
       → sum_of more +ℤ part_of p found ≡ sum_of es +ℤ part_of p (Some v)
       → sum_of (match_ordering r ((k, v) ∷ e ∷ es) ((e.0, v) ∷ es) (e ∷ more)) +ℤ part_of p (cond (is_eq r) (Some e.1) found) ≡ sum_of (e ∷ es) +ℤ part_of p (Some v)
   put_by Less k v e es more found low is =
-      ap (λ o. sum_of ((k, v) ∷ e ∷ es) +ℤ part_of p o) (low refl) ∙ ap (λ z. z +ℤ pos 0) (one_more (k, v) (e ∷ es)) ∙ none_gone (part_of p (Some v)) (sum_of (e ∷ es))
+      ap (λ o. sum_of ((k, v) ∷ e ∷ es) +ℤ part_of p o) (low refl) ∙ ap (λ z. z +ℤ pos 0) (sum_with_one (k, v) (e ∷ es)) ∙ none_gone (part_of p (Some v)) (sum_of (e ∷ es))
   put_by Equal k v e es more found low is =
-      ap (λ z. z +ℤ part_of p (Some e.1)) (one_more (e.0, v) es) ∙ one_for_another (part_of p (Some v)) (sum_of es) (part_of p (Some e.1))
-      ∙ ap (λ z. z +ℤ part_of p (Some v)) (sym (one_more e es))
+      ap (λ z. z +ℤ part_of p (Some e.1)) (sum_with_one (e.0, v) es) ∙ one_for_another (part_of p (Some v)) (sum_of es) (part_of p (Some e.1))
+      ∙ ap (λ z. z +ℤ part_of p (Some v)) (sym (sum_with_one e es))
   put_by Greater k v e es more found low is =
-      ap (λ z. z +ℤ part_of p found) (one_more e more) ∙ both_kept (sum_of more) (part_of p found) (sum_of es) (part_of p (Some v)) (part_of p (Some e.1)) is
-      ∙ ap (λ z. z +ℤ part_of p (Some v)) (sym (one_more e es))
+      ap (λ z. z +ℤ part_of p found) (sum_with_one e more) ∙ both_kept (sum_of more) (part_of p found) (sum_of es) (part_of p (Some v)) (part_of p (Some e.1)) is
+      ∙ ap (λ z. z +ℤ part_of p (Some v)) (sym (sum_with_one e es))
 
   -- one comes, perhaps in place of another
   pub sum_with : (k : ℕ) (v : Focus) (es : Entries) → IsStrictlySortedBy nat_cmp (keys_of es)
       → sum_of (insert_entry nat_cmp es k v) +ℤ part_of p (lookup (is_at (nat_cmp k)) es) ≡ sum_of es +ℤ part_of p (Some v)
   unfolding IsStrictlySortedBy
-  sum_with k v [] s = ap (λ z. z +ℤ pos 0) (one_more (k, v) []) ∙ none_gone (part_of p (Some v)) (pos 0)
+  sum_with k v [] s = ap (λ z. z +ℤ pos 0) (sum_with_one (k, v) []) ∙ none_gone (part_of p (Some v)) (pos 0)
   sum_with k v (e ∷ es) s =
       put_by (nat_cmp k e.0) k v e es (insert_entry nat_cmp es k v) (lookup (is_at (nat_cmp k)) es)
       (λ low. below_all k es (lower_all k e.0 (keys_of es) low s.0)) (sum_with k v es s.1)
@@ -138,7 +138,7 @@ within_more count part sum is near = record {
 sums_within : (p : Focus → Bool) (es : Entries) → AreWeighed es → IsWithin (length es) (sum_of p es)
 sums_within p [] all = record { low = omega (arith, ints); high = omega (arith, ints) }
 sums_within p (e ∷ es) all =
-    subst (IsWithin (suc (length es))) (sym (one_more p e es)) (within_more (length es) (part_of p (Some e.1)) (sum_of p es) (part_within (p e.1) e.1.weight all.0) (sums_within p es all.1))
+    subst (IsWithin (suc (length es))) (sym (sum_with_one p e es)) (within_more (length es) (part_of p (Some e.1)) (sum_of p es) (part_within (p e.1) e.1.weight all.0) (sums_within p es all.1))
 
 -- as many as there can be
 pub sums_fit : (p : Focus → Bool) (es : Entries) → AreWeighed es → length es < 2 ^ 63 → IsSum (sum_of p es)

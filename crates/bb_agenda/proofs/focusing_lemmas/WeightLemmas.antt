@@ -20,8 +20,8 @@ rating_is s sources foci a = refl
 abbrev pub sum_with : (Focus → Bool) → ℤ → List Focus → ℤ
 sum_with p sum left = sum +ℤ total_weight (filter p left)
 
-none_left : (sum : ℤ) → sum +ℤ pos 0 ≡ sum
-none_left sum = omega (arith, ints)
+add_zero : (sum : ℤ) → sum +ℤ pos 0 ≡ sum
+add_zero sum = omega (arith, ints)
 
 taken : (sum weight rest : ℤ) → (sum +ℤ weight) +ℤ rest ≡ sum +ℤ (weight +ℤ rest)
 taken sum weight rest = omega (arith, ints)
@@ -30,14 +30,14 @@ module _ (p : Focus → Bool) where
   -- one more
   more_by : (sum : ℤ) (focus : Focus) (left : List Focus) (b : Bool) → (sum +ℤ cond b focus.weight (pos 0)) +ℤ total_weight (filter p left) ≡ sum +ℤ total_weight (cond b (focus ∷ filter p left) (filter p left))
   more_by sum focus left true = taken sum focus.weight (total_weight (filter p left))
-  more_by sum focus left false = ap (λ z. z +ℤ total_weight (filter p left)) (none_left sum)
+  more_by sum focus left false = ap (λ z. z +ℤ total_weight (filter p left)) (add_zero sum)
 
   pub sum_more : (sum : ℤ) (focus : Focus) (left : List Focus) → sum_with p (sum +ℤ cond (p focus) focus.weight (pos 0)) left ≡ sum_with p sum (focus ∷ left)
   sum_more sum focus left = more_by sum focus left (p focus)
 
   -- none is left
   pub sum_all : (sum : ℤ) (left : List Focus) → left ≡ [] → sum ≡ sum_with p sum left
-  sum_all sum left none = sym (ap (sum_with p sum) none ∙ none_left sum)
+  sum_all sum left none = sym (ap (sum_with p sum) none ∙ add_zero sum)
 
 -- ---- no sum is too large
 

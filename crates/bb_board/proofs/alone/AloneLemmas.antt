@@ -38,7 +38,7 @@ use Rattle.bb_board.proofs.alone.KeptLemmas.{kept, pairs_kept, kept_kept, kept_s
 use Rattle.bb_board.proofs.alone.LeavingLemmas.{out_from, out_more, out_at, out_none, out_all, Apart, range_apart, over, over_in}
 use Rattle.bb_board.proofs.alone.PartnerLemmas.{is_in, once_kept, partners_kept}
 use Rattle.bb_board.proofs.alone.PartingLemmas.{relinked, unlink_from_all}
-use Rattle.bb_board.proofs.alone.TurnLemmas.{removes, spared, slots_rise, owned_slot, first_is_least, rest_rises, one_passes, found, partners_own, turn}
+use Rattle.bb_board.proofs.alone.TurnLemmas.{removes, spared, slots_rise, owned_slot, first_is_least, rest_rises, one_passes, link_of_end, partners_own, turn}
 
 no_more : (a b : Bool) → (not a && not b) ≡ not (b || a)
 no_more true true = refl
@@ -94,7 +94,7 @@ module _ (s : Schema) (w : World) (sf : schemas.Fits s) (fits : Fits s w) (n : �
       left_partners : partners e.1 n (pairs_of (kept (spared s n done) w.links) e.0) ≡ filter (is_turn [] e.1 n) (ends w.links n slot)
       left_partners =
           ap (partners e.1 n) (pairs_kept (spared s n done) w.links e.0)
-          ∙ (partners_kept e.1 n (spared s n done e.0) (λ p. is_of_owner s w.units (far e.1 p) (found s w sf fits n live done rest slot e is before each rising).0.inverse) (is_turn [] e.1 n)
+          ∙ (partners_kept e.1 n (spared s n done e.0) (λ p. is_of_owner s w.units (far e.1 p) (link_of_end s w sf fits n live done rest slot e is before each rising).0.inverse) (is_turn [] e.1 n)
           (λ p owns at. turn s w sf fits n live done rest slot e is before each rising p owns) pairs (partners_own s w sf fits n live done rest slot e is before each rising)
           ∙ ap (filter (is_turn [] e.1 n)) (sym (were_by (Some e) is)))
 

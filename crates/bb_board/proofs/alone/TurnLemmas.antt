@@ -122,25 +122,25 @@ module _ (s : Schema) (w : World) (sf : schemas.Fits s) (fits : Fits s w) (n : �
       (before : (x : ℕ) → is_in done x ≡ true → (y : ℕ) → is_in (slot ∷ rest) y ≡ true → x < y)
       (each : (x : ℕ) → is_in slots x ≡ true → (is_in done x ≡ true) ⊎ (is_in (slot ∷ rest) x ≡ true))
       (rising : IsStrictlySortedBy nat_cmp (slot ∷ rest)) where
-    pub found : (l : Link) × (link_of s.slots slot ≡ Some l) × (couple_end s.slots slot l ≡ e)
-    found = link_at s sf.coupled slot e is
+    pub link_of_end : (l : Link) × (link_of s.slots slot ≡ Some l) × (couple_end s.slots slot l ≡ e)
+    link_of_end = link_at s sf.coupled slot e is
 
     abbrev inverse : ℕ
-    inverse = found.0.inverse
+    inverse = link_of_end.0.inverse
 
     inverse_at : couple_of s inverse ≡ Some (let f : ℕ × Side = (e.0, opposite e.1) in f)
-    inverse_at = inverse_end s sf.coupled slot found.0 found.1 ∙ ap (λ (f : ℕ × Side). Some (let g : ℕ × Side = (f.0, opposite f.1) in g)) found.2
+    inverse_at = inverse_end s sf.coupled slot link_of_end.0 link_of_end.1 ∙ ap (λ (f : ℕ × Side). Some (let g : ℕ × Side = (f.0, opposite f.1) in g)) link_of_end.2
 
     -- each partner has the inverse of the slot
     pub partners_own : list_all (λ p. is_of_owner s w.units (far e.1 p) inverse) (pairs_of w.links e.0) ≡ true
     partners_own = far_by e.1 inverse (pairs_of w.links e.0) (fits.pairs inverse (let f : ℕ × Side = (e.0, opposite e.1) in f) inverse_at)
 
     side_by : (b : Bool) → nat_lt slot inverse ≡ b → ((e.1 ≡ A) × (slot < inverse)) ⊎ ((e.1 ≡ B) × (inverse < slot))
-    side_by true test = inl (ap (λ (f : ℕ × Side). f.1) (sym found.2) ∙ rw test refl, ltb-true slot inverse test)
+    side_by true test = inl (ap (λ (f : ℕ × Side). f.1) (sym link_of_end.2) ∙ rw test refl, ltb-true slot inverse test)
     side_by false test =
         let le = ltb-false slot inverse test in
-        let apart = (sf.coupled slot found.0 found.1).other in
-        inr (ap (λ (f : ℕ × Side). f.1) (sym found.2) ∙ rw test refl, omega (arith, le, apart))
+        let apart = (sf.coupled slot link_of_end.0 link_of_end.1).other in
+        inr (ap (λ (f : ℕ × Side). f.1) (sym link_of_end.2) ∙ rw test refl, omega (arith, le, apart))
 
     side : ((e.1 ≡ A) × (slot < inverse)) ⊎ ((e.1 ≡ B) × (inverse < slot))
     side = side_by (nat_lt slot inverse) refl
@@ -167,9 +167,9 @@ module _ (s : Schema) (w : World) (sf : schemas.Fits s) (fits : Fits s w) (n : �
           by : (b : Bool) → (e.0 == f.0) ≡ b → ((b && near f.1 p == n) ≡ false) ⊎ ((x ≡ inverse) × ((b && near f.1 p == n) ≡ (far e.1 p == n)))
           by false other = inl refl
           by true same =
-              elim (is_either s sf.coupled slot x found.0 link.0 found.1 link.1 (ap (λ (g : ℕ × Side). g.0) link.2 ∙ (sym (eqb-true e.0 f.0 same) ∙ ap (λ (g : ℕ × Side). g.0) (sym found.2)))) [
+              elim (is_either s sf.coupled slot x link_of_end.0 link.0 link_of_end.1 link.1 (ap (λ (g : ℕ × Side). g.0) link.2 ∙ (sym (eqb-true e.0 f.0 same) ∙ ap (λ (g : ℕ × Side). g.0) (sym link_of_end.2)))) [
                 | inl itself ↦ absurd (not_itself x there itself.1)
-                | inr other ↦ inr (other.1, far_is e.1 f.1 (ap (λ (g : ℕ × Side). g.1) (sym link.2) ∙ (other.0 ∙ ap (λ (g : ℕ × Side). opposite g.1) found.2)))
+                | inr other ↦ inr (other.1, far_is e.1 f.1 (ap (λ (g : ℕ × Side). g.1) (sym link.2) ∙ (other.0 ∙ ap (λ (g : ℕ × Side). opposite g.1) link_of_end.2)))
               ]
 
       -- at side A no slot before it is the inverse

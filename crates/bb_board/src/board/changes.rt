@@ -21,7 +21,8 @@ use crate::loader::read_units;
 use crate::note::{Note, Said};
 use crate::units_fault::UnitsFault;
 use bb_basis::{Items, Memory};
-use bb_schema::{ClassId, SlotId, SpaceId, UnitId, Value};
+use bb_schema::{SpaceId, UnitId};
+use bb_schema_classes::{ClassId, SlotId, Value};
 use bb_units::CreateFault;
 use std::alloc::AllocError;
 

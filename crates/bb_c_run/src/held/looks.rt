@@ -9,7 +9,9 @@ ghost use Rattle.bb_c_run.specs.Sitting.{label_in, made_in, next_in};
 use crate::costs;
 use crate::held::Held;
 use crate::looking::{self, fill};
-use bb_shell::{Memory, UnitId, Value};
+use bb_basis::Memory;
+use bb_schema::UnitId;
+use bb_shell::Value;
 
 impl Held {
     /// Returns a label, by the names of its set and of the label, if the schema has it. `None` once the run is

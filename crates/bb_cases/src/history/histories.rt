@@ -3,12 +3,14 @@
 ghost use Rattle.std.specs.Prelude.{◌≡◌, None, false, map, true};
 ghost use Rattle.bb_moves.specs.Roster.{all_open};
 
+use bb_basis::Text;
 use bb_cases_format::Fault;
 use bb_main_input::Sections;
 use bb_moves::{
-    Finish, HostedShell, InputFault, Move, MovesFault, NativeSource, Out, Pipe, Running, Schema,
-    SchemaFault, Shell, Text, Texts, moves_of, replay, replay_hosted,
+    Finish, InputFault, Move, MovesFault, NativeSource, Out, Pipe, Running, Schema, SchemaFault,
+    moves_of, replay, replay_hosted,
 };
+use bb_shell::{HostedShell, Shell, Texts};
 use std::alloc::Global;
 use std::fmt::Write;
 

@@ -22,8 +22,8 @@ module _ (s : Schema) (w : World) where
   was_so : (class n : ℕ) → HasKind s w (Old class) (values.Unit n) → was s w n class ≡ true
   was_so class n (m, same, is) = let eq : n ≡ m = cc in subst (λ (k : ℕ). was s w k class ≡ true) (sym eq) is
 
-  both : (x y : Bool) → x ≡ true → y ≡ true → (x && y) ≡ true
-  both x y p q = rw (p, q) refl
+  and_both : (x y : Bool) → x ≡ true → y ≡ true → (x && y) ≡ true
+  and_both x y p q = rw (p, q) refl
 
   alone : (class it : ℕ) (ev : Option ℕ) → fits_alone s w class (record { it = it; ev = ev }) ≡ true ↔ EntryFits s w (Do class) (record { it = it; ev = ev })
   alone class it None = (λ is. ((it, refl, is), tt), λ fits. was_so class it fits.0)
@@ -33,7 +33,7 @@ module _ (s : Schema) (w : World) where
   event class of it None = (λ is. absurd cc, λ fits. elim fits.1 [ ])
   event class of it (Some ev) = (
     λ is. (let p = and_parts (was s w it class) (was s w ev of) is in ((it, refl, p.0), ((ev, refl, p.1), tt))),
-    λ fits. both (was s w it class) (was s w ev of) (was_so class it fits.0) (was_so of ev fits.1.0),
+    λ fits. and_both (was s w it class) (was s w ev of) (was_so class it fits.0) (was_so of ev fits.1.0),
   )
 
   pub entry_fits_is : (part : Part) (entry : Entry) → IsTrue (entry_fits s w part entry) ↔ EntryFits s w part entry

@@ -11,12 +11,12 @@ ghost use Rattle.bb_cases_parts.specs.machines.Entries.{entry_fits, fits_alone, 
 
 use crate::machines::executions::{add_end, add_notes};
 use bb_board::Board;
-use bb_code::Code;
-use bb_exec::{Outcome, Stop as Stopped, exec};
+use bb_code::{Code, Flaw, VerifyFault};
+use bb_exec::{Stop as Stopped, exec};
 use bb_exec_lower::Lowered;
-use bb_machine::{Entry, Stop};
+use bb_machine::{Entry, Outcome, Stop};
 use bb_schema::{ClassId, Schema};
-use bb_verify::{Flaw, Part, VerifyFault, verify};
+use bb_verify::{Part, verify};
 use std::alloc::{AllocError, Global};
 
 // Returns whether an entry has no event, and its unit had a class.

@@ -1,7 +1,7 @@
 -- What a loop over patterns has made so far, put before what it still makes.
 use Rattle.std.specs.Prelude.{List, [], ◌∷◌, Result, Ok}
 use Rattle.bb_basis.specs.Results.{◌>>=◌}
-use Rattle.bb_code.specs.Trees.{Tree, Trees, more}
+use Rattle.bb_pattern.specs.Trees.{Tree, Trees, more}
 use Rattle.bb_compile_scope.specs.declared.fault.CompileFault.{CompileFault}
 use Rattle.bb_compile.specs.declared.asked.Asked.{Asked}
 use Rattle.bb_compile_buffer.specs.declared.buffer.Buffer.{Buffer}

@@ -4,8 +4,10 @@
 use crate::scope::kinds::kind_of;
 use crate::scope::statement::{Statement, until_end, word_at};
 use bb_basis::Memory;
-use bb_compile_scope::{ClassId, Kind, Schema, class_of, link_slot};
+use bb_code::Kind;
+use bb_compile_scope::{ClassId, class_of, link_slot};
 use bb_diag_text::Token;
+use bb_schema::Schema;
 use std::alloc::Global;
 
 /// A `delete` that may have deleted the unit of a name: its line, and the class of the unit it deletes.

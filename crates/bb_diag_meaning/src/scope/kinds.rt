@@ -3,7 +3,8 @@
 use crate::scope::judge::Judge;
 use crate::scope::statement::word_at;
 use bb_basis::Memory;
-use bb_compile_scope::{Kind, value_slot};
+use bb_code::Kind;
+use bb_compile_scope::value_slot;
 use bb_diag_text::{Token, TokenKind, write_shown};
 use std::fmt::Write;
 

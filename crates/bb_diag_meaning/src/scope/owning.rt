@@ -2,8 +2,8 @@
 //! names them.
 
 use bb_basis::Memory;
-use bb_compile_scope::{ClassId, Schema};
-use bb_schema::SlotId;
+use bb_compile_scope::ClassId;
+use bb_schema::{Schema, SlotId};
 use std::alloc::Global;
 
 // A class that a deletion reaches, with the owning slot that leads to it and the index of the class reached before.

@@ -1,6 +1,6 @@
 use Rattle.std.proofs.Common.{rules, arith, sym, ap, ◌∙◌}
 use Rattle.bb_pattern.specs.View.{tree_of}
-use Rattle.bb_pattern.proofs.Parts.{parts_below_and, parts_below_or, none_left}
+use Rattle.bb_pattern.proofs.Parts.{parts_below_and, parts_below_or, no_room_after}
 use Rattle.bb_pattern.proofs.+room.Goals as goal
 
 pub pattern::Pattern::room_after-rooms_after-requires : goal.pattern::Pattern::room_after-rooms_after-requires
@@ -14,4 +14,4 @@ pattern::Pattern::room_after-rooms_after-requires-in-Or t c =
     (omega (arith, below), tt)
 
 pub pattern::Pattern::room_after-returns-then-room-eq0 : goal.pattern::Pattern::room_after-returns-then-room-eq0
-pattern::Pattern::room_after-returns-then-room-eq0 t c = none_left c.args.self.now c.args.room (search rules)
+pattern::Pattern::room_after-returns-then-room-eq0 t c = no_room_after c.args.self.now c.args.room (search rules)

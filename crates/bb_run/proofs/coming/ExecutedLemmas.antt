@@ -4,7 +4,7 @@ use Rattle.std.proofs.lemmas.List.{append-nil, append_cancel_left, append_cancel
 use Rattle.bb_basis.proofs.AppendLemmas.{there_is}
 use Rattle.bb_trace.specs.Board.{Board as Blackboard}
 use Rattle.bb_agenda.specs.declared.focusing.activation.Activation.{Activation}
-use Rattle.bb_trace.specs.Source.{Source}
+use Rattle.bb_rules.specs.Parts.{Source}
 use Rattle.bb_trace.specs.End.{End}
 use Rattle.bb_trace.specs.End as finishes
 use Rattle.bb_trace.specs.declared.note.Note.{Note}
@@ -92,12 +92,12 @@ module _ (plan : Plan) where
     pub emits : Chosen number a r ∷ after ≡ all_of segments
 
   -- a run that goes on where another one is over by its limit
-  goes_on : (number m : ℕ) (a : Activation) (r : ℤ) (p q : Stretch) (before after : List Note) → number ≡ m + 1 → number ≡ length (chosen_in before) + 1 → length (chosen_in (notes_of p)) ≤ m → IsChosenAfter plan p before number a r
+  from_choice_by : (number m : ℕ) (a : Activation) (r : ℤ) (p q : Stretch) (before after : List Note) → number ≡ m + 1 → number ≡ length (chosen_in before) + 1 → length (chosen_in (notes_of p)) ≤ m → IsChosenAfter plan p before number a r
       → notes_of q ≡ before ++ Chosen number a r ∷ after → GoesFurther plan (m + 1) p q → FromChoice m number a r p after
-  goes_on number m a r p q before after is counted few chosen emitted (inl same) =
+  from_choice_by number m a r p q before after is counted few chosen emitted (inl same) =
       let more = chosen_more (notes_of p) before after number a r (ap notes_of (sym same) ∙ emitted) in
       absurd (omega (arith, is, counted, few, more))
-  goes_on number m a r p q before after is counted few chosen emitted (inr further) =
+  from_choice_by number m a r p q before after is counted few chosen emitted (inr further) =
       let front = further.1.0 in
       let rest = further.1.1.0 in
       let last = finish finishes.Limit p.state.natives in
@@ -116,7 +116,7 @@ module _ (plan : Plan) where
       let one : number ≡ m + 1 = omega (arith, counted) in
       let left : m + (limit - m) ≡ limit = omega (arith, counted, within, many) in
       let further : GoesFurther plan (m + 1) (run plan board natives m) (run plan board natives limit) = subst (λ n. GoesFurther plan (m + 1) (run plan board natives m) (run plan board natives n)) left (run_goes_further plan board natives m (limit - m)) in
-      goes_on number m a r (run plan board natives m) (run plan board natives limit) before after one counted (run_keeps_limit plan board natives m).within (run_chooses plan board natives limit before number a r (after, emitted)) emitted further
+      from_choice_by number m a r (run plan board natives m) (run plan board natives limit) before after one counted (run_keeps_limit plan board natives m).within (run_chooses plan board natives limit before number a r (after, emitted)) emitted further
 
   pub run_is_followed : (board : Blackboard) (natives : List Native) (limit : ℕ) (before after : List Note) (number : ℕ) (a : Activation) (r : ℤ) → notes_of (run plan board natives limit) ≡ before ++ Chosen number a r ∷ after
       → IsFollowed plan (run plan board natives (number - 1)).state a after

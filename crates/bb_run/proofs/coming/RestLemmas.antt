@@ -49,25 +49,25 @@ module _ (plan : Plan) (reading : AsksByReading plan) (board : Blackboard) (nati
   abbrev noted_first : List Note
   noted_first = map Board board.world.notes
 
-  abbrev first : Response
-  first = noted (first_state plan board natives) [] None
+  abbrev begun : Response
+  begun = noted (first_state plan board natives) [] None
 
-  by_first : IsBy noted_first first.state.agenda
+  by_first : IsBy noted_first begun.state.agenda
   by_first =
       let agenda : Agenda = no_activations (setting_of plan) in
-      by_foci noted_first agenda (by_silent [] noted_first agenda (none_triggered board.world.notes) (none_pending board.world.notes) (record { pending = refl; numbers = refl })) first.state.agenda.foci
+      by_foci noted_first agenda (by_silent [] noted_first agenda (none_triggered board.world.notes) (none_pending board.world.notes) (record { pending = refl; numbers = refl })) begun.state.agenda.foci
 
-  pub run_answers_first : (limit : ℕ) (after : List Note) → notes_of (run plan board natives limit) ≡ noted_first ++ after → Answers plan first.state.board (events_in noted_first) noted_first after
+  pub run_answers_first : (limit : ℕ) (after : List Note) → notes_of (run plan board natives limit) ≡ noted_first ++ after → Answers plan begun.state.board (events_in noted_first) noted_first after
   run_answers_first limit after emitted =
       let p = start plan board natives in
-      let q = processing_all plan (events_in first.emitted) first.state in
+      let q = processing_all plan (events_in begun.emitted) begun.state in
       let emits = first_emits p.end p (cycles plan 0 limit) refl in
       let left = all_of ((q.emitted ++ finish_segments q.end q.state.natives) ++ emits.0) in
       let all : notes_of (run plan board natives limit) ≡ noted_first ++ left = ap all_of emits.1 ∙ ap (λ l. l ++ left) (append-nil noted_first) in
       let same : after ≡ left = append_cancel_left noted_first after left (sym emitted ∙ all) in
-      subst (λ l. Answers plan first.state.board (events_in noted_first) noted_first l) (sym same)
-      (subst (λ l. Answers plan first.state.board (events_in l) noted_first left) (append-nil noted_first)
-      (answers_reported plan reading first noted_first emits.0 by_first (λ e. subst (λ l. MayComeNext [] (all_of l)) (emits.2 e) (cycles_next plan 0 limit q.state))))
+      subst (λ l. Answers plan begun.state.board (events_in noted_first) noted_first l) (sym same)
+      (subst (λ l. Answers plan begun.state.board (events_in l) noted_first left) (append-nil noted_first)
+      (answers_reported plan reading begun noted_first emits.0 by_first (λ e. subst (λ l. MayComeNext [] (all_of l)) (emits.2 e) (cycles_next plan 0 limit q.state))))
 
   -- ---- quiescence
 

@@ -6,9 +6,8 @@ use Rattle.std.proofs.lemmas.List.Concat.{flat_map-cons}
 use Rattle.bb_basis.proofs.IntoMapLemmas.{next_one}
 use Rattle.bb_trace.specs.Event.{Event}
 use Rattle.bb_agenda.specs.declared.focusing.activation.Activation.{Activation}
-use Rattle.bb_trace.specs.Source.{Source}
-use Rattle.bb_trace.specs.End.{End}
-use Rattle.bb_trace.specs.End.{Limit, Quiescence}
+use Rattle.bb_rules.specs.Parts.{Source}
+use Rattle.bb_trace.specs.End.{End, Limit, Quiescence}
 use Rattle.bb_trace.specs.declared.halt.Halt.{Halt}
 use Rattle.bb_trace.specs.declared.note.Note.{Note}
 use Rattle.bb_run.specs.declared.cycles.Decision.{Decision}
@@ -41,8 +40,8 @@ pub nothing_emitted : (plan : Plan) (place : Place) (p : Stretch) → HasEmitted
 nothing_emitted plan place p = record { segments = []; emitted = emitted_nothing plan place; same = refl }
 
 -- the run goes on after a stretch that does not end it, and ends in one that does
-pub goes_on : (p : Stretch) (next : State → Stretch) (s : State) → Leaves p s None → and_then p next ≡ after_emitted p.emitted (next s)
-goes_on p next s left = ap (λ e. and_then_unless e p next) (sym left.end) ∙ ap (λ t. after_emitted p.emitted (next t)) (sym left.state)
+pub and_then_left : (p : Stretch) (next : State → Stretch) (s : State) → Leaves p s None → and_then p next ≡ after_emitted p.emitted (next s)
+and_then_left p next s left = ap (λ e. and_then_unless e p next) (sym left.end) ∙ ap (λ t. after_emitted p.emitted (next t)) (sym left.state)
 
 pub stops : (p : Stretch) (next : State → Stretch) (s : State) (end : End) → Leaves p s (Some end) → and_then p next ≡ p
 stops p next s end left = ap (λ e. and_then_unless e p next) (sym left.end)
@@ -85,7 +84,7 @@ pub part_emitted : (plan : Plan) (a b c : Place) (whole p : Stretch) (next : Sta
 part_emitted plan a b c whole p next s h t left = record {
   segments = h.segments ++ p.emitted;
   emitted = emitted_then plan a b c h.segments p.emitted h.emitted t;
-  same = h.same ∙ ap (after_emitted h.segments) (goes_on p next s left) ∙ grouped h.segments p.emitted (next s);
+  same = h.same ∙ ap (after_emitted h.segments) (and_then_left p next s left) ∙ grouped h.segments p.emitted (next s);
 }
 
 -- a part of it was emitted, and the run ends there

@@ -3,15 +3,15 @@ use Rattle.std.proofs.Common.{◌≡◌, ◌⊎◌, ℕ, inl, inr, Ok, Err, List
 use Rattle.bb_agenda.specs.declared.focusing.activation.Activation.{Activation}
 use Rattle.bb_code.specs.Code.{Code}
 use Rattle.bb_verify.specs.Accepted.{Checked}
-use Rattle.bb_theorem_machine.specs.Answer.{Answer}
-use Rattle.bb_theorem_machine.specs.Entry.{Entry}
-use Rattle.bb_theorem_machine.specs.Outcome.{Outcome}
+use Rattle.bb_machine.specs.declared.outcome.Answer.{Answer}
+use Rattle.bb_machine.specs.declared.outcome.Entry.{Entry}
+use Rattle.bb_machine.specs.declared.outcome.Outcome.{Outcome}
 use Rattle.bb_basis.specs.Results.{Gives}
 use Rattle.bb_exec.specs.Executed.{as_defensive}
 use Rattle.bb_exec.specs.declared.stop.Stop.{Stop as Stopped}
 use Rattle.bb_exec.specs.declared.stop.Stop.TheVariants as stopped
-use Rattle.bb_theorem_machine.specs.Stop.{Stop}
-use Rattle.bb_theorem_machine.specs.Stop.TheVariants as stops
+use Rattle.bb_machine.specs.declared.outcome.Stop.{Stop}
+use Rattle.bb_machine.specs.declared.outcome.Stop.TheVariants as stops
 use Rattle.bb_trace.specs.Board.{Board as Blackboard}
 use Rattle.bb_trace.specs.End.{End}
 use Rattle.bb_trace.specs.End as ends

@@ -60,11 +60,11 @@ page_cut plan start given place emitted count h more = record {
 }
 
 -- where memory runs out, what was emitted stays
-pub stays : (plan : Plan) (start : Option (List ℕ)) (place : Place) (emitted more : List (List Note)) → HasWritten plan start place emitted → EmittedFirst plan start place (emitted ++ more)
-stays plan start place emitted more h = record { first = emitted; rest = more; all = refl; emitted = h }
+pub emitted_first_more : (plan : Plan) (start : Option (List ℕ)) (place : Place) (emitted more : List (List Note)) → HasWritten plan start place emitted → EmittedFirst plan start place (emitted ++ more)
+emitted_first_more plan start place emitted more h = record { first = emitted; rest = more; all = refl; emitted = h }
 
 pub cut_by_memory : (plan : Plan) (place : Place) (segments : List (List Note)) → CutIn plan place place segments halts.Memory
-cut_by_memory plan place segments start emitted h = stays plan start place emitted segments h
+cut_by_memory plan place segments start emitted h = emitted_first_more plan start place emitted segments h
 
 -- ---- what is emitted goes on
 

@@ -18,7 +18,7 @@ use Rattle.bb_trace.specs.End.{End}
 use Rattle.bb_trace.specs.End as finishes
 use Rattle.bb_trace.specs.declared.note.Note.{Note}
 use Rattle.bb_trace.specs.declared.note.Note.TheVariants.{Board, Triggered, Declined, Obviated, Retriggered, Chosen, Invalid, Ended, Refused, NativeEnded, Posted, PostEnded, Finished, Closed}
-use Rattle.bb_trace.specs.Source.{Source}
+use Rattle.bb_rules.specs.Parts.{Source}
 use Rattle.bb_run_plan.specs.Plan.{Plan}
 use Rattle.bb_run.specs.Emission.{Response}
 use Rattle.bb_run.specs.Executed.{IsFollowed, finish_by, upon_choice}
@@ -183,8 +183,8 @@ module _ (plan : Plan) where
         owes_then source = owes_more (before ++ chosen) (upon source).emitted paid_then (free_silent plan (upon source).emitted (upon_choices done source a (run plan board natives (cycle - 1)).state).of_act)
 
         -- the run up to what comes upon the choice
-        there : (emitted rest : List Note) → more ≡ emitted ++ rest → all ≡ ((before ++ chosen) ++ emitted) ++ rest
-        there emitted rest same =
+        notes_up_to : (emitted rest : List Note) → more ≡ emitted ++ rest → all ≡ ((before ++ chosen) ++ emitted) ++ rest
+        notes_up_to emitted rest same =
             is ∙ ap (λ l. before ++ Chosen cycle a r ∷ l) same ∙ sym (append_assoc before chosen (emitted ++ rest)) ∙ sym (append_assoc (before ++ chosen) emitted rest)
 
         by_end : (source : Source) (rest : List Note) (end : Option End) → slice_get plan.sources a.source ≡ Some source → (upon source).end ≡ end → more ≡ ((upon source).emitted ++ finish_by end (upon source).state.natives) ++ rest
@@ -201,7 +201,7 @@ module _ (plan : Plan) where
             let count : length more ≡ length u.emitted + length rest = ap (λ l. length l) more_is ∙ length-append u.emitted rest in
             let fewer : length rest ≤ fuel = omega (arith, few, count) in
             let goes = turns_on fuel others u.state.board (events_in u.emitted) later rest fewer (subst (λ l. Answers plan u.state.board (events_in u.emitted) l rest) same answers)
-            (there u.emitted rest more_is ∙ ap (λ l. l ++ rest) same) (inl outside') (subst (λ l. Owes plan l (asked_for plan (events_in u.emitted))) same (owes_then source)) in
+            (notes_up_to u.emitted rest more_is ∙ ap (λ l. l ++ rest) same) (inl outside') (subst (λ l. Owes plan l (asked_for plan (events_in u.emitted))) same (owes_then source)) in
             subst (Comes (MayStand plan) (before ++ chosen)) (sym more_is)
             (comes_then (MayStand plan) (before ++ chosen) u.emitted rest (free_come plan u.emitted (before ++ chosen) free.of_act) (subst (λ l. Comes (MayStand plan) l rest) (sym same) goes))
         by_end source rest (Some end) at some begins =
@@ -210,7 +210,7 @@ module _ (plan : Plan) where
             let free = upon_choices done source a s in
             let last : List Note = map Closed (closings_of u.state.natives) ++ rest in
             let more_is : more ≡ u.emitted ++ Finished end ∷ last = begins ∙ append_assoc u.emitted (finish end u.state.natives) rest in
-            let goes = finish_comes ((before ++ chosen) ++ u.emitted) end last (asked_for plan (events_in u.emitted)) (there u.emitted (Finished end ∷ last) more_is) (owes_then source)
+            let goes = finish_comes ((before ++ chosen) ++ u.emitted) end last (asked_for plan (events_in u.emitted)) (notes_up_to u.emitted (Finished end ∷ last) more_is) (owes_then source)
             (may_owe_early end (asked_for plan (events_in u.emitted)) (subst IsEarly some free.early)) in
             subst (Comes (MayStand plan) (before ++ chosen)) (sym more_is)
             (comes_then (MayStand plan) (before ++ chosen) u.emitted (Finished end ∷ last) (free_come plan u.emitted (before ++ chosen) free.of_act) goes)

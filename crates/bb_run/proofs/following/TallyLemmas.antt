@@ -31,21 +31,21 @@ MayCome phase (Ended steps found allowed) = phase ≡ inside
 MayCome phase (NativeEnded asks) = phase ≡ inside
 MayCome phase _ = ⊤
 
-begins : (phase : Phase) (begun over : ℕ) → (phase ≡ outside) ⊎ (phase ≡ rested) → Tallies phase begun over → over + 0 + 1 ≡ begun + 1
-begins outside begun over may tally = omega (arith, tally)
-begins rested begun over may tally = omega (arith, tally)
-begins inside begun over (inl is) tally = absurd cc
-begins inside begun over (inr is) tally = absurd cc
+tallies_begin : (phase : Phase) (begun over : ℕ) → (phase ≡ outside) ⊎ (phase ≡ rested) → Tallies phase begun over → over + 0 + 1 ≡ begun + 1
+tallies_begin outside begun over may tally = omega (arith, tally)
+tallies_begin rested begun over may tally = omega (arith, tally)
+tallies_begin inside begun over (inl is) tally = absurd cc
+tallies_begin inside begun over (inr is) tally = absurd cc
 
 finishes : (phase : Phase) (begun over : ℕ) → phase ≡ inside → Tallies phase begun over → over + 1 ≡ begun + 0
 finishes outside begun over is tally = absurd cc
 finishes rested begun over is tally = absurd cc
 finishes inside begun over is tally = omega (arith, tally)
 
-same : (phase : Phase) (begun over : ℕ) → Tallies phase begun over → Tallies phase (begun + 0) (over + 0)
-same outside begun over tally = omega (arith, tally)
-same rested begun over tally = omega (arith, tally)
-same inside begun over tally = omega (arith, tally)
+tallies_same : (phase : Phase) (begun over : ℕ) → Tallies phase begun over → Tallies phase (begun + 0) (over + 0)
+tallies_same outside begun over tally = omega (arith, tally)
+tallies_same rested begun over tally = omega (arith, tally)
+tallies_same inside begun over tally = omega (arith, tally)
 
 on_board : (phase : Phase) (note : BoardNote) (begun over : ℕ) → Tallies phase begun over → Tallies (after_in phase (Board note)) (begun + 0) (over + 0)
 on_board inside note begun over tally = omega (arith, tally)
@@ -56,20 +56,20 @@ on_board outside (said values) begun over tally = omega (arith, tally)
 
 -- one note more
 tally_next : (phase : Phase) (note : Note) (begun over : ℕ) → MayCome phase note → Tallies phase begun over → Tallies (after_in phase note) (begun + length (chosen_in (note ∷ []))) (over + ends_in (note ∷ []))
-tally_next phase (Chosen cycle a r) begun over may tally = begins phase begun over may tally
+tally_next phase (Chosen cycle a r) begun over may tally = tallies_begin phase begun over may tally
 tally_next phase (Invalid number) begun over may tally = finishes phase begun over may tally
 tally_next phase (Ended steps found allowed) begun over may tally = finishes phase begun over may tally
 tally_next phase (NativeEnded asks) begun over may tally = finishes phase begun over may tally
 tally_next phase (Board note) begun over may tally = on_board phase note begun over tally
-tally_next phase (Triggered a) begun over may tally = same phase begun over tally
-tally_next phase (Declined source unit) begun over may tally = same phase begun over tally
-tally_next phase (Obviated number) begun over may tally = same phase begun over tally
-tally_next phase (Retriggered number base) begun over may tally = same phase begun over tally
-tally_next phase (Refused ask refusal) begun over may tally = same phase begun over tally
-tally_next phase Posted begun over may tally = same phase begun over tally
-tally_next phase (PostEnded asks) begun over may tally = same phase begun over tally
-tally_next phase (Finished end) begun over may tally = same phase begun over tally
-tally_next phase (Closed closing) begun over may tally = same phase begun over tally
+tally_next phase (Triggered a) begun over may tally = tallies_same phase begun over tally
+tally_next phase (Declined source unit) begun over may tally = tallies_same phase begun over tally
+tally_next phase (Obviated number) begun over may tally = tallies_same phase begun over tally
+tally_next phase (Retriggered number base) begun over may tally = tallies_same phase begun over tally
+tally_next phase (Refused ask refusal) begun over may tally = tallies_same phase begun over tally
+tally_next phase Posted begun over may tally = tallies_same phase begun over tally
+tally_next phase (PostEnded asks) begun over may tally = tallies_same phase begun over tally
+tally_next phase (Finished end) begun over may tally = tallies_same phase begun over tally
+tally_next phase (Closed closing) begun over may tally = tallies_same phase begun over tally
 
 -- what notes say of it
 abbrev pub IsTallied : List Note → Type 0

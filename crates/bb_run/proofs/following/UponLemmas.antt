@@ -7,11 +7,11 @@ use Rattle.std.proofs.lemmas.List.Sums.{fold-append}
 use Rattle.bb_agenda.specs.declared.focusing.activation.Activation.{Activation}
 use Rattle.bb_agenda.specs.Changes.{with_executed}
 use Rattle.bb_code.specs.Code.{Code}
-use Rattle.bb_theorem_machine.specs.Outcome.{Outcome}
-use Rattle.bb_theorem_machine.specs.Stop.{Stop}
+use Rattle.bb_machine.specs.declared.outcome.Outcome.{Outcome}
+use Rattle.bb_machine.specs.declared.outcome.Stop.{Stop}
 use Rattle.bb_verify.specs.Budget.{budget}
-use Rattle.bb_trace.specs.Act.{Act}
-use Rattle.bb_trace.specs.Act.TheVariants as deeds
+use Rattle.bb_rules.specs.declared.source.Act.{Act}
+use Rattle.bb_rules.specs.declared.source.Act.TheVariants as deeds
 use Rattle.bb_trace.specs.Applied.{applied}
 use Rattle.bb_trace.specs.Ask.{Ask}
 use Rattle.bb_trace.specs.Board.{Board as Blackboard}
@@ -19,7 +19,7 @@ use Rattle.bb_trace.specs.BoardNote.{Note as BoardNote}
 use Rattle.bb_trace.specs.Denial.{Denial}
 use Rattle.bb_trace.specs.Denial.TheVariants as denials
 use Rattle.bb_trace.specs.Roster.{place_of}
-use Rattle.bb_trace.specs.Source.{Source}
+use Rattle.bb_rules.specs.Parts.{Source}
 use Rattle.bb_trace.specs.End.{End}
 use Rattle.bb_trace.specs.declared.note.Note.{Note}
 use Rattle.bb_trace.specs.declared.note.Note.TheVariants.{Board, Triggered, Declined, Obviated, Retriggered, Chosen, Invalid, Ended, Refused, NativeEnded, Posted, PostEnded, Finished, Closed}

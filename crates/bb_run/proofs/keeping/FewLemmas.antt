@@ -8,10 +8,10 @@ use Rattle.bb_agenda.specs.Agenda.{Agenda, is_full, pending_of}
 use Rattle.bb_agenda.specs.Changes.{new_activation, other_than, rebased, with_activation, with_base, with_executed, with_obviated}
 use Rattle.bb_agenda.proofs.Laws.{pending_added, pending_executed, pending_obviated, pending_rebased}
 use Rattle.bb_code.specs.Code.{Code}
-use Rattle.bb_theorem_machine.specs.Outcome.{Outcome}
-use Rattle.bb_theorem_machine.specs.Stop.{Stop}
-use Rattle.bb_trace.specs.Act.{Act}
-use Rattle.bb_trace.specs.Act.TheVariants as acts
+use Rattle.bb_machine.specs.declared.outcome.Outcome.{Outcome}
+use Rattle.bb_machine.specs.declared.outcome.Stop.{Stop}
+use Rattle.bb_rules.specs.declared.source.Act.{Act}
+use Rattle.bb_rules.specs.declared.source.Act.TheVariants as acts
 use Rattle.bb_trace.specs.Ask.{Ask}
 use Rattle.bb_trace.specs.Board.{Board as Blackboard}
 use Rattle.bb_trace.specs.Native.{Native}
@@ -119,8 +119,8 @@ module _ (plan : Plan) where
   chooses number a r verdicts.Invalid s few = without_one s.agenda (with_obviated s.agenda a.number) a.number (pending_obviated s.agenda a.number) few
   chooses number a r (verdicts.Over end) s few = few
 
-  kept : IsKept plan Few
-  kept = record {
+  few_kept : IsKept plan Few
+  few_kept = record {
     events = λ event s few. holds plan StaysFew response_parts event s few;
     executes = executes;
     asks = λ source a s is few. few;
@@ -128,4 +128,4 @@ module _ (plan : Plan) where
   }
 
   pub run_has_few : (board : Blackboard) (natives : List Native) (limit : ℕ) → HasFew (run plan board natives limit).state.agenda
-  run_has_few board natives limit = run_keeps plan Few kept board natives (let none : 0 ≤ 65536 = omega arith in none) limit
+  run_has_few board natives limit = run_keeps plan Few few_kept board natives (let none : 0 ≤ 65536 = omega arith in none) limit

@@ -6,19 +6,19 @@ use Rattle.std.specs.List.{list_all}
 use Rattle.std.proofs.lemmas.List.Elements.{All-contains}
 use Rattle.bb_agenda.specs.declared.focusing.activation.Activation.{Activation}
 use Rattle.bb_theorem_machine.proofs.Laws.{activation_reads, part_reads}
-use Rattle.bb_theorem_machine.specs.Writes.{has_no_writes, is_write}
+use Rattle.bb_machine.specs.Writes.{has_no_writes, is_write}
 use Rattle.bb_code.specs.declared.op.Op.{Op}
 use Rattle.bb_verify.specs.Accepted.{Checked}
 use Rattle.bb_verify.proofs.Laws.{checked_facts}
 use Rattle.bb_verify.specs.Budget.{budget}
 use Rattle.bb_verify.specs.declared.checked.TheConstants.{FOUND_LIMIT}
-use Rattle.bb_theorem_machine.specs.Entry.{Entry}
+use Rattle.bb_machine.specs.declared.outcome.Entry.{Entry}
 use Rattle.bb_trace.specs.Board.{Board as Blackboard}
 use Rattle.bb_trace.specs.Event.{Event}
-use Rattle.bb_trace.specs.Law.{HasSoundCodes}
-use Rattle.bb_trace.specs.Questions.{IsQuestion}
-use Rattle.bb_trace.specs.Reaction.{Reaction}
-use Rattle.bb_trace.specs.Source.{Source}
+use Rattle.bb_rules.specs.Law.{HasSoundCodes}
+use Rattle.bb_rules.specs.Questions.{IsQuestion}
+use Rattle.bb_rules.specs.declared.source.Reaction.{Reaction}
+use Rattle.bb_rules.specs.Parts.{Source}
 use Rattle.bb_trace.specs.End.{End}
 use Rattle.bb_run_plan.specs.Plan.{Plan}
 use Rattle.bb_run.specs.State.{State}

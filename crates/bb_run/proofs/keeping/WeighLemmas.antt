@@ -21,8 +21,8 @@ use Rattle.bb_agenda.specs.Rating.{rating as rated, rating_in}
 use Rattle.bb_code.specs.Code.{Code}
 use Rattle.bb_verify.specs.Budget.{budget}
 use Rattle.bb_verify.specs.declared.checked.TheConstants.{FOUND_LIMIT}
-use Rattle.bb_theorem_machine.specs.Outcome.{Outcome}
-use Rattle.bb_theorem_machine.specs.Stop.{Stop}
+use Rattle.bb_machine.specs.declared.outcome.Outcome.{Outcome}
+use Rattle.bb_machine.specs.declared.outcome.Stop.{Stop}
 use Rattle.bb_theorem_machine.specs.Named.{names, NotesChanges}
 use Rattle.bb_theorem_machine.specs.Units.{Units, is_live, class_of, value_of}
 use Rattle.bb_schema_classes.specs.declared.value.Value.{Value}
@@ -32,9 +32,9 @@ use Rattle.bb_trace.specs.Events.{unit_of}
 use Rattle.bb_trace.specs.Board.{Board as Blackboard}
 use Rattle.bb_trace.specs.BoardNote.{Note as BoardNote}
 use Rattle.bb_trace.specs.BoardNote.TheVariants.{Event as happened, Said as said}
-use Rattle.bb_trace.specs.Act.{Act}
-use Rattle.bb_trace.specs.Act.TheVariants as acts
-use Rattle.bb_trace.specs.Source.{Source}
+use Rattle.bb_rules.specs.declared.source.Act.{Act}
+use Rattle.bb_rules.specs.declared.source.Act.TheVariants as acts
+use Rattle.bb_rules.specs.Parts.{Source}
 use Rattle.bb_trace.specs.End.{End}
 use Rattle.bb_trace.specs.Ask.{Ask}
 use Rattle.bb_trace.specs.Native.{Native}
@@ -317,8 +317,8 @@ module _ (plan : Plan) (reading : AsksByReading plan) where
 
   -- ---- each part of a run
 
-  kept : IsKept plan Knows
-  kept = record {
+  knows_kept : IsKept plan Knows
+  knows_kept = record {
     events = responds;
     executes = executes;
     asks = λ source a s is k. knows_same plan s (with_board s (validity (option_and_then (λ t. t.revalidate) source) a s.board).1) (same_board source a s.board is) refl refl k;
@@ -326,13 +326,13 @@ module _ (plan : Plan) (reading : AsksByReading plan) where
   }
 
   pub cycle_knows : (number : ℕ) (a : Activation) (s : State) → Knows s → Knows (cycle plan number a s).state
-  cycle_knows number a s k = cycle_keeps plan Knows kept number a s k
+  cycle_knows number a s k = cycle_keeps plan Knows knows_kept number a s k
 
   pub waits : (s : State) (c : Option Activation) → Knows s → Knows (wait_for plan s c).state
-  waits s c k = wait_keeps plan Knows kept s c k
+  waits s c k = wait_keeps plan Knows knows_kept s c k
 
   pub cycles_know : (made left : ℕ) (s : State) → Knows s → Knows (cycles plan made left s).state
-  cycles_know made left s k = cycles_keep plan Knows kept made left s k
+  cycles_know made left s k = cycles_keep plan Knows knows_kept made left s k
 
   -- ---- what else a host has a run do
 
@@ -340,7 +340,7 @@ module _ (plan : Plan) (reading : AsksByReading plan) where
   turns made s (Some a) k = cycle_knows (made + 1) a s k
   turns made s None k =
       let p = quiet plan s in
-      kept_then plan Knows p (λ t. if_chosen t (choice plan t) (λ a. idle t)) p.end (waits s None k) (λ t known. goes_if plan Knows kept t (choice plan t) (λ a. idle t) known (λ a. known))
+      kept_then plan Knows p (λ t. if_chosen t (choice plan t) (λ a. idle t)) p.end (waits s None k) (λ t known. goes_if plan Knows knows_kept t (choice plan t) (λ a. idle t) known (λ a. known))
 
   pub turn_knows : (made : ℕ) (s : State) → Knows s → Knows (turn plan made s).state
   turn_knows made s k = turns made s (choice plan s) k
@@ -348,13 +348,13 @@ module _ (plan : Plan) (reading : AsksByReading plan) where
   pub post_knows : (asks : List Ask) (s : State) → Knows s → Knows (posting plan asks s).state
   post_knows asks s k =
       let r = each_applied 1 asks s in
-      reports plan Knows kept (after_emitted (Posted ∷ []) (asked (λ n. PostEnded n) asks s))
+      reports plan Knows knows_kept (after_emitted (Posted ∷ []) (asked (λ n. PostEnded n) asks s))
       (kept_then plan Knows r (λ u. emitting (PostEnded (length asks) ∷ []) u None) r.end (asks_hold asks KnowsStill (ask_parts asks) s k) (λ u known. known))
 
   pub answer_knows : (asks : List Ask) (s : State) → Knows s → Knows (answering plan asks s).state
   answer_knows asks s k =
       let r = each_applied 1 asks s in
-      reports plan Knows kept (asked (λ n. NativeEnded n) asks s)
+      reports plan Knows knows_kept (asked (λ n. NativeEnded n) asks s)
       (kept_then plan Knows r (λ u. emitting (NativeEnded (length asks) ∷ []) u None) r.end (asks_hold asks KnowsStill (ask_parts asks) s k) (λ u known. known))
 
   -- ---- the whole run
@@ -376,7 +376,7 @@ module _ (plan : Plan) (reading : AsksByReading plan) where
   }
 
   pub start_knows : (board : Blackboard) (natives : List Native) → NumbersGiven board → Knows (start plan board natives).state
-  start_knows board natives given = start_keeps plan Knows kept board natives (first_knows board natives given)
+  start_knows board natives given = start_keeps plan Knows knows_kept board natives (first_knows board natives given)
 
   pub run_knows_foci : (board : Blackboard) (natives : List Native) (limit : ℕ) → NumbersGiven board → Knows (run plan board natives limit).state
-  run_knows_foci board natives limit given = run_keeps plan Knows kept board natives (first_knows board natives given) limit
+  run_knows_foci board natives limit given = run_keeps plan Knows knows_kept board natives (first_knows board natives given) limit

@@ -10,21 +10,21 @@ use Rattle.bb_trace.specs.Board.{Board as Blackboard}
 use Rattle.bb_agenda.specs.declared.focusing.activation.Activation.{Activation}
 use Rattle.bb_agenda.specs.Agenda.{Agenda, is_full, pending_of}
 use Rattle.bb_verify.specs.Accepted.{Checked}
-use Rattle.bb_theorem_machine.specs.Answer.{Answer}
-use Rattle.bb_theorem_machine.specs.Answer.TheVariants as answers
-use Rattle.bb_theorem_machine.specs.Entry.{Entry}
-use Rattle.bb_theorem_machine.specs.Outcome.{Outcome}
-use Rattle.bb_theorem_machine.specs.Stop.{Stop}
-use Rattle.bb_theorem_machine.specs.Stop.TheVariants as stops
-use Rattle.bb_trace.specs.Act.{Act}
-use Rattle.bb_trace.specs.Act.TheVariants as acts
+use Rattle.bb_machine.specs.declared.outcome.Answer.{Answer}
+use Rattle.bb_machine.specs.declared.outcome.Answer.TheVariants as answers
+use Rattle.bb_machine.specs.declared.outcome.Entry.{Entry}
+use Rattle.bb_machine.specs.declared.outcome.Outcome.{Outcome}
+use Rattle.bb_machine.specs.declared.outcome.Stop.{Stop}
+use Rattle.bb_machine.specs.declared.outcome.Stop.TheVariants as stops
+use Rattle.bb_rules.specs.declared.source.Act.{Act}
+use Rattle.bb_rules.specs.declared.source.Act.TheVariants as acts
 use Rattle.bb_trace.specs.Ask.{Ask}
 use Rattle.bb_trace.specs.Native.{Native}
 use Rattle.bb_trace.specs.Roster.{after_act_at, asks_at, place_of}
 use Rattle.bb_trace.specs.Sight.{Sight, sight_of}
 use Rattle.bb_trace.specs.declared.note.Note.TheVariants.{NativeEnded}
 use Rattle.bb_trace.proofs.Laws.{applied_full, applied_no_memory}
-use Rattle.bb_trace.specs.Source.{Source}
+use Rattle.bb_rules.specs.Parts.{Source}
 use Rattle.bb_trace.specs.End.{End}
 use Rattle.bb_trace.specs.End as finishes
 use Rattle.bb_run_plan.specs.Plan.{Plan}
@@ -66,8 +66,8 @@ module _ (plan : Plan) where
   caused_then p next None is first rest = rest
 
   -- what an execution that was stopped as full left has no room for a unit more
-  none_left : (b : Blackboard) (steps found : ℕ) → WasStopped plan b (stops.Full steps found) → no_unit_left b.world.units ≡ true
-  none_left b steps found was =
+  full_has_no_unit : (b : Blackboard) (steps found : ℕ) → WasStopped plan b (stops.Full steps found) → no_unit_left b.world.units ≡ true
+  full_has_no_unit b steps found was =
       let full = activation_full (budget was.code.code FOUND_LIMIT) was.code.code was.entry was.before steps found was.came in
       elim was.left [
         | inl same ↦ subst (λ (x : Blackboard). no_unit_left x.world.units ≡ true) (sym same) full
@@ -75,7 +75,7 @@ module _ (plan : Plan) where
       ]
 
   by_stop : (s : State) (stop : Stop) → WasStopped plan s.board stop → HasCause plan s (Some (end_by stop))
-  by_stop s (stops.Full steps found) was = of_units steps found was (none_left s.board steps found was)
+  by_stop s (stops.Full steps found) was = of_units steps found was (full_has_no_unit s.board steps found was)
   by_stop s (stops.Stuck reason steps found) was = of_execution reason steps found was
   by_stop s stops.Memory was = absurd (activation_no_memory (budget was.code.code FOUND_LIMIT) was.code.code was.entry was.before was.came)
 
@@ -114,14 +114,14 @@ module _ (plan : Plan) where
   -- ---- a cycle
 
   module _ (source : Source) (a : Activation) (s : State) (is_at : slice_get plan.sources a.source ≡ Some source) where
-    there : Contains plan.sources source
-    there = there_at plan.sources a.source source is_at
+    source_there : Contains plan.sources source
+    source_there = there_at plan.sources a.source source is_at
 
     executes : (code : Checked) (r : Result Outcome Stop) → source.act ≡ acts.Code code → let e = attempt code.code (entry_of a.unit None) s.board in e.0 ≡ r → IsCaused (answered code.code (with_board s e.1) r)
     executes code (Ok o) is came = tt
     executes code (Err stop) is came =
         by_stop (answered code.code (with_board s (attempt code.code (entry_of a.unit None) s.board).1) (Err stop)).state stop
-        (record { source = source; one = there; code = code; part = inl is; entry = entry_of a.unit None; before = s.board; came = came; left = inr refl })
+        (record { source = source; one = source_there; code = code; part = inl is; entry = entry_of a.unit None; before = s.board; came = came; left = inr refl })
 
     -- an ask finds no room for a unit more
     module _ (native : source.act ≡ acts.Native) (before : List Native) (place : ℕ) (placed : place_of before source.name ≡ Some place) (seen : Sight) where
@@ -146,7 +146,7 @@ module _ (plan : Plan) where
           natives = λ same. same;
           cause = λ same. of_ask (record {
             source = source;
-            one = there;
+            one = source_there;
             native = native;
             before = before;
             place = place;

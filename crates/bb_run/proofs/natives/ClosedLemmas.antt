@@ -5,10 +5,10 @@ use Rattle.std.specs.Option.{option_map_or}
 use Rattle.std.proofs.lemmas.List.Concat.{flat_map-append}
 use Rattle.bb_agenda.specs.declared.focusing.activation.Activation.{Activation}
 use Rattle.bb_code.specs.Code.{Code}
-use Rattle.bb_theorem_machine.specs.Outcome.{Outcome}
-use Rattle.bb_theorem_machine.specs.Stop.{Stop}
-use Rattle.bb_trace.specs.Act.{Act}
-use Rattle.bb_trace.specs.Act.TheVariants as acts
+use Rattle.bb_machine.specs.declared.outcome.Outcome.{Outcome}
+use Rattle.bb_machine.specs.declared.outcome.Stop.{Stop}
+use Rattle.bb_rules.specs.declared.source.Act.{Act}
+use Rattle.bb_rules.specs.declared.source.Act.TheVariants as acts
 use Rattle.bb_trace.specs.Ask.{Ask}
 use Rattle.bb_trace.specs.Board.{Board as Blackboard}
 use Rattle.bb_trace.specs.Closing.{Closing}
@@ -107,8 +107,8 @@ module _ (natives : List Native) where
       let e = attempt body.code (entry_of a.unit None) s.board in answered_left body.code (with_board s e.1) e.0 left
   executes plan name acts.Native a s left = calls plan (place_of s.natives name) a s left
 
-  pub kept : (plan : Plan) → IsKept plan Left
-  kept plan = record {
+  pub left_kept : (plan : Plan) → IsKept plan Left
+  left_kept plan = record {
     events = λ event s left. subst (AllZip IsLike natives) (sym (same_natives plan event s)) left;
     executes = executes plan;
     asks = λ source a s is left. left;
@@ -147,7 +147,7 @@ module _ (plan : Plan) (board : Blackboard) (natives : List Native) where
 
   pub run_closes_each : (limit : ℕ) → ClosesEach (run plan board natives limit)
   run_closes_each limit =
-      let left : AllZip IsLike natives (run plan board natives limit).state.natives = run_keeps plan (Left natives) (kept natives plan) board natives (alike natives) limit in
+      let left : AllZip IsLike natives (run plan board natives limit).state.natives = run_keeps plan (Left natives) (left_kept natives plan) board natives (alike natives) limit in
       let closings = closings_of (run plan board natives limit).state.natives in
       let before = run_notes plan board natives limit in
       let all : closed_in (notes_of (run plan board natives limit)) ≡ closings =

@@ -8,11 +8,11 @@ use Rattle.bb_basis.proofs.ListLemmas.{position-map}
 use Rattle.bb_agenda.specs.declared.focusing.activation.Activation.{Activation}
 use Rattle.bb_code.specs.Code.{Code}
 use Rattle.bb_verify.specs.Accepted.{Checked}
-use Rattle.bb_theorem_machine.specs.Answer.{Answer}
-use Rattle.bb_theorem_machine.specs.Answer.TheVariants as answers
-use Rattle.bb_theorem_machine.specs.Outcome.{Outcome}
-use Rattle.bb_theorem_machine.specs.Stop.{Stop}
-use Rattle.bb_theorem_machine.specs.Stop.TheVariants as stops
+use Rattle.bb_machine.specs.declared.outcome.Answer.{Answer}
+use Rattle.bb_machine.specs.declared.outcome.Answer.TheVariants as answers
+use Rattle.bb_machine.specs.declared.outcome.Outcome.{Outcome}
+use Rattle.bb_machine.specs.declared.outcome.Stop.{Stop}
+use Rattle.bb_machine.specs.declared.outcome.Stop.TheVariants as stops
 use Rattle.bb_trace.specs.Ask.{Ask}
 use Rattle.bb_trace.specs.Board.{Board as Blackboard}
 use Rattle.bb_trace.specs.End.{End}

@@ -2,23 +2,23 @@
 use Rattle.std.proofs.Common.{◌≡◌, ℕ, ◌+◌, ℤ, Bool, true, false, cond, List, [], ◌∷◌, length, Option, Some, None, Result, Ok, Err, refl, ap, ◌∙◌}
 use Rattle.bb_trace.specs.Event.{Event}
 use Rattle.bb_trace.specs.Events.{unit_of}
-use Rattle.bb_trace.specs.Match.{any_match}
+use Rattle.bb_rules.specs.Match.{any_match}
 use Rattle.bb_agenda.specs.declared.focusing.activation.Activation.{Activation}
 use Rattle.bb_agenda.specs.Agenda.{is_full, pending_for}
 use Rattle.bb_agenda.specs.Changes.{new_activation, with_activation}
 use Rattle.bb_code.specs.Code.{Code}
 use Rattle.bb_verify.specs.Accepted.{Checked}
-use Rattle.bb_theorem_machine.specs.Answer.{Answer}
-use Rattle.bb_theorem_machine.specs.Answer.TheVariants as answers
-use Rattle.bb_theorem_machine.specs.Entry.{Entry}
+use Rattle.bb_machine.specs.declared.outcome.Answer.{Answer}
+use Rattle.bb_machine.specs.declared.outcome.Answer.TheVariants as answers
+use Rattle.bb_machine.specs.declared.outcome.Entry.{Entry}
 use Rattle.bb_trace.specs.Applied.{applied}
 use Rattle.bb_trace.specs.Ask.{Ask}
 use Rattle.bb_trace.specs.Board.{Board as Blackboard}
 use Rattle.bb_trace.specs.Denial.{Denial}
 use Rattle.bb_trace.specs.Denial.TheVariants as denials
 use Rattle.bb_trace.specs.Native.{Native}
-use Rattle.bb_trace.specs.Reaction.{Reaction}
-use Rattle.bb_trace.specs.Source.{Source}
+use Rattle.bb_rules.specs.declared.source.Reaction.{Reaction}
+use Rattle.bb_rules.specs.Parts.{Source}
 use Rattle.bb_trace.specs.End.{End}
 use Rattle.bb_trace.specs.End as finishes
 use Rattle.bb_trace.specs.declared.note.Note.{Note}

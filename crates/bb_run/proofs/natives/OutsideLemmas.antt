@@ -3,15 +3,15 @@
 use Rattle.std.proofs.Common.{◌≡◌, ℕ, ℤ, List, [], ◌∷◌, ◌++◌, slice_get, Option, Some, None, refl, sym, ap, subst, ◌∙◌, append_assoc}
 use Rattle.std.specs.Prelude.{option_and_then}
 use Rattle.bb_agenda.specs.declared.focusing.activation.Activation.{Activation}
-use Rattle.bb_trace.specs.Act.{Act}
-use Rattle.bb_trace.specs.Act.TheVariants as acts
+use Rattle.bb_rules.specs.declared.source.Act.{Act}
+use Rattle.bb_rules.specs.declared.source.Act.TheVariants as acts
 use Rattle.bb_trace.specs.Ask.{Ask}
 use Rattle.bb_trace.specs.End.{End}
 use Rattle.bb_trace.specs.End as finishes
 use Rattle.bb_trace.specs.Native.{Native}
 use Rattle.bb_trace.specs.Roster.{after_act_at, asks_at, place_of}
 use Rattle.bb_trace.specs.Sight.{sight_of}
-use Rattle.bb_trace.specs.Source.{Source}
+use Rattle.bb_rules.specs.Parts.{Source}
 use Rattle.bb_trace.specs.declared.note.Note.{Note}
 use Rattle.bb_trace.specs.declared.note.Note.TheVariants.{NativeEnded}
 use Rattle.bb_run_plan.specs.Plan.{Plan}

@@ -10,18 +10,18 @@ use Rattle.bb_agenda.specs.focusing.Foci.{Foci}
 use Rattle.bb_agenda.specs.Changes.{new_activation, with_activation, with_base, with_obviated}
 use Rattle.bb_agenda.proofs.Laws.{pending_added, pending_obviated, pending_rebased, given_added, given_obviated, given_rebased}
 use Rattle.bb_theorem_machine.proofs.Laws.{activation_reads}
-use Rattle.bb_theorem_machine.specs.Answer.{Answer}
-use Rattle.bb_theorem_machine.specs.Answer.TheVariants as answers
-use Rattle.bb_theorem_machine.specs.Entry.{Entry}
-use Rattle.bb_theorem_machine.specs.Outcome.{Outcome}
-use Rattle.bb_theorem_machine.specs.Stop.{Stop}
-use Rattle.bb_theorem_machine.specs.Writes.{has_no_writes}
+use Rattle.bb_machine.specs.declared.outcome.Answer.{Answer}
+use Rattle.bb_machine.specs.declared.outcome.Answer.TheVariants as answers
+use Rattle.bb_machine.specs.declared.outcome.Entry.{Entry}
+use Rattle.bb_machine.specs.declared.outcome.Outcome.{Outcome}
+use Rattle.bb_machine.specs.declared.outcome.Stop.{Stop}
+use Rattle.bb_machine.specs.Writes.{has_no_writes}
 use Rattle.bb_trace.specs.Board.{Board as Blackboard}
 use Rattle.bb_trace.specs.Event.{Event}
 use Rattle.bb_trace.specs.Events.{unit_of}
-use Rattle.bb_trace.specs.Match.{any_match}
-use Rattle.bb_trace.specs.Reaction.{Reaction}
-use Rattle.bb_trace.specs.Source.{Source}
+use Rattle.bb_rules.specs.Match.{any_match}
+use Rattle.bb_rules.specs.declared.source.Reaction.{Reaction}
+use Rattle.bb_rules.specs.Parts.{Source}
 use Rattle.bb_trace.specs.End.{End}
 use Rattle.bb_trace.specs.End as finishes
 use Rattle.bb_trace.specs.declared.note.Note.{Note}
@@ -175,8 +175,8 @@ module _ (plan : Plan) (board : Blackboard) where
   abbrev Reads : Checked → Type 0
   Reads code = has_no_writes code.code ≡ true
 
-  kept : (code : Checked) (entry : Entry) (b : Blackboard) → Reads code → b ≡ board → (attempt code.code entry b).1 ≡ board
-  kept code entry b reads same = activation_reads (budget code.code FOUND_LIMIT) code.code entry b reads ∙ same
+  attempt_keeps_board : (code : Checked) (entry : Entry) (b : Blackboard) → Reads code → b ≡ board → (attempt code.code entry b).1 ≡ board
+  attempt_keeps_board code entry b reads same = activation_reads (budget code.code FOUND_LIMIT) code.code entry b reads ∙ same
 
   replied : (past : List Note) (says : Option Answer → List (Option Note)) (next : Answer → State → Response) (r : Result Outcome Stop) (t : State) → t.board ≡ board
       → ((answer : Answer) → Emits past (says (Some answer)) (next answer t)) → Emits past (says (answer_in r)) (upon (reply_by r) next t)
@@ -187,7 +187,7 @@ module _ (plan : Plan) (board : Blackboard) where
       → ((answer : Answer) (t : State) → t.board ≡ board → IsBy past t.agenda → Emits past (says (Some answer)) (next answer t)) → Emits past (says (answer_of code entry board)) (asking code.code entry next s)
   asks past says code entry next s reads same by goes =
       let e = attempt code.code entry s.board in
-      let left : e.1 ≡ board = kept code entry s.board reads same in
+      let left : e.1 ≡ board = attempt_keeps_board code entry s.board reads same in
       subst (λ (b : Blackboard). Emits past (says (answer_of code entry b)) (asking code.code entry next s)) same
       (replied past says next e.0 (with_board s e.1) left (λ answer. goes answer (with_board s e.1) left by))
 

@@ -50,8 +50,8 @@ module _ (plan : Plan) (board : Blackboard) (natives : List Native) (limit : ℕ
   later = and_then_unless processed.end processed (cycles plan 0 limit)
 
   -- whatever the limit, the run begins with what is emitted first and the processing of that
-  begins : processed.end ≡ None → Begins plan board natives (first.emitted ∷ processed.emitted) 0 processed.state
-  begins goes = λ left any is.
+  run_begins : processed.end ≡ None → Begins plan board natives (first.emitted ∷ processed.emitted) 0 processed.state
+  run_begins goes = λ left any is.
       let same : any ≡ left = omega (arith, is) in
       after_first first.emitted processed (cycles plan 0 any) processed.end
       ∙ ap (λ e. after_emitted (first.emitted ∷ []) (and_then_unless e processed (cycles plan 0 any))) goes
@@ -70,7 +70,7 @@ module _ (plan : Plan) (board : Blackboard) (natives : List Native) (limit : ℕ
   ends : EmitsLast plan board natives [] later
   ends =
       ends_then plan board natives [] outside processed (cycles plan 0 limit) processed.end refl (processes_all plan board natives (events_in first.emitted) [] outside first.state (at_first plan board natives (setting_of plan) first.state.agenda.foci))
-      (λ goes at. all_cycles plan board natives 0 limit (first.emitted ∷ processed.emitted) (notes_of processed) processed.state (begins goes) so_far at)
+      (λ goes at. all_cycles plan board natives 0 limit (first.emitted ∷ processed.emitted) (notes_of processed) processed.state (run_begins goes) so_far at)
 
   abbrev rest : List (List Note)
   rest = later.emitted ++ finish_segments later.end later.state.natives

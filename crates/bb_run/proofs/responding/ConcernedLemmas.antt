@@ -6,15 +6,15 @@ use Rattle.std.proofs.lemmas.Bool.{or_parts}
 use Rattle.bb_schema.specs.Schema.{Schema, descends}
 use Rattle.bb_agenda.specs.declared.focusing.activation.Activation.{Activation}
 use Rattle.bb_agenda.specs.Agenda.{pending_for}
-use Rattle.bb_theorem_machine.specs.Answer.{Answer}
-use Rattle.bb_trace.specs.Clause.{Clause}
-use Rattle.bb_trace.specs.Clause.TheVariants as clauses
+use Rattle.bb_machine.specs.declared.outcome.Answer.{Answer}
+use Rattle.bb_rules.specs.declared.clause.Clause.{Clause}
+use Rattle.bb_rules.specs.declared.clause.Clause.TheVariants as clauses
 use Rattle.bb_run_plan.specs.Concerned.{any_of_kind, concerned_from, is_concerned, is_of_kind, reaction_of_kind}
 use Rattle.bb_trace.specs.Event.{Event}
 use Rattle.bb_trace.specs.Event.TheVariants as events
-use Rattle.bb_trace.specs.Match.{any_match, matches}
-use Rattle.bb_trace.specs.Reaction.{Reaction}
-use Rattle.bb_trace.specs.Source.{Source}
+use Rattle.bb_rules.specs.Match.{any_match, matches}
+use Rattle.bb_rules.specs.declared.source.Reaction.{Reaction}
+use Rattle.bb_rules.specs.Parts.{Source}
 use Rattle.bb_trace.specs.End.{End}
 use Rattle.bb_run.specs.State.{State}
 use Rattle.bb_run.specs.Emission.{Response, after_emitted, and_then, and_then_unless, idle}

@@ -9,7 +9,7 @@ use Rattle.bb_basis.proofs.AppendLemmas.{some_within}
 use Rattle.bb_trace.specs.Board.{Board as Blackboard}
 use Rattle.bb_trace.specs.Event.{Event}
 use Rattle.bb_trace.specs.Events.{unit_of}
-use Rattle.bb_trace.specs.Reaction.{Reaction}
+use Rattle.bb_rules.specs.declared.source.Reaction.{Reaction}
 use Rattle.bb_agenda.specs.declared.focusing.activation.Activation.{Activation}
 use Rattle.bb_agenda.specs.Agenda.{is_on}
 use Rattle.bb_code.specs.Code.{Code, places}
@@ -33,10 +33,9 @@ use Rattle.bb_machine.specs.declared.value.Value.{Value}
 use Rattle.bb_machine.specs.declared.value.Value.TheVariants.{Unit as One, Bool as Truth}
 use Rattle.bb_machine.proofs.Laws.{after_op, by_op}
 use Rattle.bb_rules.specs.Own.{IT, EV, answers, asks_own, begins_with_own, compares_units, loads, refuses, says_no}
-use Rattle.bb_run.specs.State.{State}
+use Rattle.bb_run.specs.State.{State, with_board}
 use Rattle.bb_run.specs.Emission.{Response, and_then, idle}
 use Rattle.bb_run.specs.Asking.{attempt, entry_of, reply_by, upon}
-use Rattle.bb_run.specs.State.{with_board}
 use Rattle.bb_run.specs.Processing.{obviated_by, reacting_to, reacting_to_each, rerated_by}
 use Rattle.bb_run.specs.proving.Own.{asked_about}
 use Rattle.bb_run.proofs.responding.ConcernedLemmas.{then_same}
@@ -115,8 +114,8 @@ module _ (code : Code) (it ev : ℕ) (b : Blackboard) where
       ∙ ap (λ t. steps_from n 3 code (standing 3 (Truth t ∷ []), b)) apart))
 
   module _ (apart : (it == ev) ≡ false) where
-    turned : (ev == it) ≡ false
-    turned = ne_eqb ev it (λ same. let e : (it == ev) ≡ true = eq-eqb it ev (sym same) in absurd cc)
+    event_is_not_it : (ev == it) ≡ false
+    event_is_not_it = ne_eqb ev it (λ same. let e : (it == ev) ≡ true = eq-eqb it ev (sym same) in absurd cc)
 
     compared : (n : ℕ) → begins_with_own code ≡ true → steps_from (suc (suc (suc n))) 0 code (start, b) ≡ steps_from n 3 code (standing 3 (Truth false ∷ []), b)
     compared n begins =
@@ -132,7 +131,7 @@ module _ (code : Code) (it ev : ℕ) (b : Blackboard) where
             compared_in_order n IT EV it ev refl refl apart (load_is IT (slice_get code.ops 0) two.0) (load_is EV (slice_get code.ops 1) two.1) third
         by false h either third =
             let two = and_parts (loads EV (slice_get code.ops 0)) (loads IT (slice_get code.ops 1)) either in
-            compared_in_order n EV IT ev it refl refl turned (load_is EV (slice_get code.ops 0) two.0) (load_is IT (slice_get code.ops 1) two.1) third
+            compared_in_order n EV IT ev it refl refl event_is_not_it (load_is EV (slice_get code.ops 0) two.0) (load_is IT (slice_get code.ops 1) two.1) third
 
     -- ---- what comes behind it
 

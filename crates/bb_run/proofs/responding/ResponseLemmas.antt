@@ -6,11 +6,11 @@ use Rattle.std.specs.Option.{option_map_or}
 use Rattle.bb_schema.specs.Schema.{Schema}
 use Rattle.bb_trace.specs.Event.{Event}
 use Rattle.bb_agenda.specs.declared.focusing.activation.Activation.{Activation}
-use Rattle.bb_theorem_machine.specs.Answer.{Answer}
+use Rattle.bb_machine.specs.declared.outcome.Answer.{Answer}
 use Rattle.bb_run_plan.specs.Concerned.{concerned}
 use Rattle.bb_run_plan.specs.Plan.{Plan}
-use Rattle.bb_trace.specs.Reaction.{Reaction}
-use Rattle.bb_trace.specs.Source.{Source}
+use Rattle.bb_rules.specs.declared.source.Reaction.{Reaction}
+use Rattle.bb_rules.specs.Parts.{Source}
 use Rattle.bb_trace.specs.End.{End}
 use Rattle.bb_trace.specs.declared.note.Note.{Note}
 use Rattle.bb_run.specs.State.{State}

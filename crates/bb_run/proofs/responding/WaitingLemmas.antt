@@ -62,8 +62,8 @@ module _ (a : Agenda) (waiting found : List Activation) (itself : EachItself a w
   next_pends = ap is_some next_found
 
   -- that activation is the next one
-  pub one_more : (x : Activation) → pending_at a number ≡ Some x → Finds waiting (found ++ x ∷ []) numbers
-  one_more x is = record {
+  pub take_one_more : (x : Activation) → pending_at a number ≡ Some x → Finds waiting (found ++ x ∷ []) numbers
+  take_one_more x is = record {
     left = first.others;
     whole =
         let same : x ≡ first.one = some_same x first.one (sym is ∙ next_found) in

@@ -2,12 +2,12 @@
 use Rattle.std.proofs.Common.{◌≡◌, ℕ, zero, suc, ◌+◌, ℤ, List, [], ◌∷◌, slice_get, Option, Some, None, refl}
 use Rattle.std.specs.Prelude.{option_and_then}
 use Rattle.bb_agenda.specs.declared.focusing.activation.Activation.{Activation}
-use Rattle.bb_trace.specs.Act.{Act}
+use Rattle.bb_rules.specs.declared.source.Act.{Act}
 use Rattle.bb_trace.specs.Board.{Board as Blackboard}
 use Rattle.bb_trace.specs.Event.{Event}
 use Rattle.bb_trace.specs.Event.TheVariants.{Quiescence as quiescence}
 use Rattle.bb_trace.specs.Native.{Native}
-use Rattle.bb_trace.specs.Source.{Source}
+use Rattle.bb_rules.specs.Parts.{Source}
 use Rattle.bb_trace.specs.End.{End}
 use Rattle.bb_trace.specs.End as finishes
 use Rattle.bb_trace.specs.declared.note.Note.{Note}

@@ -13,11 +13,11 @@ use Rattle.bb_schema.specs.Fits as schemas
 use Rattle.bb_code.specs.Code.{IsCode}
 use Rattle.bb_verify.specs.Accepted.{Checked}
 use Rattle.bb_verify.specs.Facts.{Facts}
-use Rattle.bb_verify.specs.PartType.{Part}
-use Rattle.bb_verify.specs.PartType.TheVariants as parts
+use Rattle.bb_verify_effect.specs.declared.part.Part.{Part}
+use Rattle.bb_verify_effect.specs.declared.part.Part.TheVariants as parts
 use Rattle.bb_verify.proofs.Laws.{checked_facts}
 use Rattle.bb_theorem_machine.proofs.Laws.{descends_on}
-use Rattle.bb_theorem_machine.specs.Entry.{Entry}
+use Rattle.bb_machine.specs.declared.outcome.Entry.{Entry}
 use Rattle.bb_theorem_machine.specs.Fits.{is_event_of, is_noted, is_of_if_live, names_slot_of}
 use Rattle.bb_theorem_machine.specs.Kinds.{WasOf}
 use Rattle.bb_theorem_machine.specs.NeverWrong.{Begins, EntryFits}
@@ -27,16 +27,16 @@ use Rattle.bb_trace.specs.Board.{Board as Blackboard}
 use Rattle.bb_trace.specs.BoardNote.{Note as BoardNote}
 use Rattle.bb_trace.specs.BoardNote.TheVariants.{Event as happened, Said as said}
 use Rattle.bb_trace.specs.Change.{Change}
-use Rattle.bb_trace.specs.Clause.{Clause}
-use Rattle.bb_trace.specs.Clause.TheVariants as clauses
+use Rattle.bb_rules.specs.declared.clause.Clause.{Clause}
+use Rattle.bb_rules.specs.declared.clause.Clause.TheVariants as clauses
 use Rattle.bb_trace.specs.Event.{Event}
 use Rattle.bb_trace.specs.Event.TheVariants as events
 use Rattle.bb_trace.specs.Events.{kind_of, unit_of}
-use Rattle.bb_trace.specs.Law.{HasSoundCodes, IsAccepted, IsWithin}
-use Rattle.bb_trace.specs.Match.{any_match, is_same_kind, matches}
-use Rattle.bb_trace.specs.Questions.{IsQuestion}
-use Rattle.bb_trace.specs.Reaction.{Reaction}
-use Rattle.bb_trace.specs.Source.{Source}
+use Rattle.bb_rules.specs.Law.{HasSoundCodes, IsAccepted, IsWithin}
+use Rattle.bb_rules.specs.Match.{any_match, is_same_kind, matches}
+use Rattle.bb_rules.specs.Questions.{IsQuestion}
+use Rattle.bb_rules.specs.declared.source.Reaction.{Reaction}
+use Rattle.bb_rules.specs.Parts.{Source}
 use Rattle.bb_trace.specs.declared.note.Note.{Note}
 use Rattle.bb_trace.specs.declared.note.Note.TheVariants.{Board}
 use Rattle.bb_run.specs.Asking.{entry_of}
@@ -87,8 +87,8 @@ module _ (s : Schema) (sf : schemas.Fits s) (b : Blackboard) where
   still_out : (n next later : ℕ) → next ≤ later → nat_lt n next ≡ true → nat_lt n later ≡ true
   still_out n next later le lt = grind (arith, nat_tests)
 
-  below : (n next : ℕ) → nat_lt n next ≡ true → n < next
-  below n next lt = grind (arith, nat_tests)
+  below_by_test : (n next : ℕ) → nat_lt n next ≡ true → n < next
+  below_by_test n next lt = grind (arith, nat_tests)
 
   still_own : (of : ℕ) (before after : Option ℕ) → ((c : ℕ) → after ≡ Some c → before ≡ Some c) → option_map_or (λ c. c == of) before true ≡ true → option_map_or (λ c. c == of) after true ≡ true
   still_own of before None from is = refl
@@ -105,7 +105,7 @@ module _ (s : Schema) (sf : schemas.Fits s) (b : Blackboard) where
       let r = and_parts (nat_lt unit u.next) (is_of_if_live u unit of) q.0 in
       all_four (nat_lt unit v.next) (is_of_if_live v unit of) (nat_lt of (length s.classes)) (names_slot_of s change)
       (still_out unit u.next v.next outlives.next r.0)
-      (still_own of (class_of u unit) (class_of v unit) (λ k. outlives.classes unit k (below unit u.next r.0)) r.1) q.1 p.1
+      (still_own of (class_of u unit) (class_of v unit) (λ k. outlives.classes unit k (below_by_test unit u.next r.0)) r.1) q.1 p.1
 
   -- ---- events that were noted
 

@@ -6,13 +6,13 @@ use Rattle.std.specs.Prelude.{All, ℕ, slice_index_or}
 use Rattle.std.specs.Coded.{Coded-set, coded_bool}
 use Rattle.bb_schema.specs.Schema.{Schema, descends}
 use Rattle.bb_verify.specs.Accepted.{Checked, checked}
-use Rattle.bb_verify.specs.VerifyFault.{VerifyFault}
+use Rattle.bb_code.specs.declared.flaw.VerifyFault.{VerifyFault}
 use Rattle.bb_verify.specs.proving.Codes.{checked_code}
 use Rattle.bb_verify_effect.specs.proving.Codes.{part_code}
-use Rattle.bb_trace.specs.Clause.{Clause}
-use Rattle.bb_trace.specs.Clause.TheVariants as clauses
-use Rattle.bb_trace.specs.Law.{IsMade, IsWithin}
-use Rattle.bb_trace.specs.Source.{Source}
+use Rattle.bb_rules.specs.declared.clause.Clause.{Clause}
+use Rattle.bb_rules.specs.declared.clause.Clause.TheVariants as clauses
+use Rattle.bb_rules.specs.Law.{IsMade, IsWithin}
+use Rattle.bb_rules.specs.Parts.{Source}
 
 module _ {A : Type 0} (holds : ∥ A ∥₁) where
   same_of : (x y : Checked) → (A → x ≡ y) → x ≡ y

@@ -4,13 +4,13 @@ use Rattle.std.specs.Prelude.{All, option_and_then, slice_get}
 use Rattle.std.proofs.lemmas.List.Elements.{All-head, All-tail}
 use Rattle.bb_verify.specs.Accepted.{Checked}
 use Rattle.bb_agenda.specs.declared.focusing.activation.Activation.{Activation}
-use Rattle.bb_trace.specs.Act.TheVariants as acts
+use Rattle.bb_rules.specs.declared.source.Act.TheVariants as acts
 use Rattle.bb_trace.specs.Ask.{Ask}
 use Rattle.bb_trace.specs.Board.{Board as Blackboard}
 use Rattle.bb_trace.specs.End.{End}
 use Rattle.bb_trace.specs.Event.{Event}
 use Rattle.bb_trace.specs.Native.{Native}
-use Rattle.bb_trace.specs.Source.{Source}
+use Rattle.bb_rules.specs.Parts.{Source}
 use Rattle.bb_trace.specs.declared.note.Note.{Note}
 use Rattle.bb_trace.specs.declared.note.Note.TheVariants.{NativeEnded, Posted, PostEnded}
 use Rattle.bb_run_plan.specs.Plan.{Plan}

@@ -10,9 +10,9 @@ use Rattle.bb_theorem_machine.specs.Kinds.{WasOf}
 use Rattle.bb_trace.specs.Board.{Board as Blackboard}
 use Rattle.bb_trace.specs.Event.{Event}
 use Rattle.bb_trace.specs.Events.{unit_of}
-use Rattle.bb_trace.specs.Match.{any_match}
-use Rattle.bb_trace.specs.Reaction.{Reaction}
-use Rattle.bb_trace.specs.Source.{Source}
+use Rattle.bb_rules.specs.Match.{any_match}
+use Rattle.bb_rules.specs.declared.source.Reaction.{Reaction}
+use Rattle.bb_rules.specs.Parts.{Source}
 use Rattle.bb_run_plan.specs.Plan.{Plan}
 use Rattle.bb_run.specs.Asking.{entry_of}
 use Rattle.bb_run.specs.Processing.{obviated_by, reacting, rerated_by, response, source_response}
@@ -71,8 +71,8 @@ module _ (plan : Plan) (event : Event) (s : State) (serves : ServesAt plan event
   same_after = (all_answer plan serves.sound s.board serves.ready.0.board event serves.ready.1 s goes_first).state.board
 
   module _ (place : ℕ) (source : Source) (at : slice_get plan.sources place ≡ Some source) where
-    there : Contains plan.sources source
-    there = there_at plan.sources place source at
+    source_there : Contains plan.sources source
+    source_there = there_at plan.sources place source at
 
     -- what waits of the source was of its class
     suit : All (λ (a : Activation). WasOf plan.schema s.board.world source.class a.unit) (pending_for s.agenda place)
@@ -81,32 +81,32 @@ module _ (plan : Plan) (event : Event) (s : State) (serves : ServesAt plan event
     pub obviates_all : (reaction : Reaction) → source.obviate ≡ Some reaction → any_match plan.schema reaction.clauses event ≡ true → ReactsToAll reaction event s.board (pending_for s.agenda place)
     obviates_all reaction is matched =
         All-weaker (λ (a : Activation). WasOf plan.schema s.board.world source.class a.unit) (ReactsTo reaction event s.board)
-        (λ a was. obviate_begins plan serves.sound s.board serves.ready.0.board event serves.ready.1 source there reaction is matched a was) (pending_for s.agenda place) suit
+        (λ a was. obviate_begins plan serves.sound s.board serves.ready.0.board event serves.ready.1 source source_there reaction is matched a was) (pending_for s.agenda place) suit
 
     pub retriggers_all : (reaction : Reaction) → source.retrigger ≡ Some reaction → any_match plan.schema reaction.clauses event ≡ true → ReactsToAll reaction event s.board (pending_for s.agenda place)
     retriggers_all reaction is matched =
         All-weaker (λ (a : Activation). WasOf plan.schema s.board.world source.class a.unit) (ReactsTo reaction event s.board)
-        (λ a was. retrigger_begins plan serves.sound s.board serves.ready.0.board event serves.ready.1 source there reaction is matched a was) (pending_for s.agenda place) suit
+        (λ a was. retrigger_begins plan serves.sound s.board serves.ready.0.board event serves.ready.1 source source_there reaction is matched a was) (pending_for s.agenda place) suit
 
     pub can_require : (code : Checked) → source.require ≡ Some code → any_match plan.schema source.triggers event ≡ true → CanExecute code (entry_of (unit_of event) None) s.board
-    can_require code is matched = require_begins plan serves.sound s.board serves.ready.0.board event serves.ready.1 source there code is matched
+    can_require code is matched = require_begins plan serves.sound s.board serves.ready.0.board event serves.ready.1 source source_there code is matched
 
     pub serves_obviated : ServesAt plan event (reacting plan.schema event place obviated_by source.obviate s).state
     serves_obviated =
         serves_still (reacting plan.schema event place obviated_by source.obviate s).state
-        (reacts_if plan serves.sound s.board serves.ready.0.board event serves.ready.1 obviated_by source there (obviates plan serves.sound s.board serves.ready.0.board) place source.obviate s at
-        (obviate_asked plan serves.sound s.board serves.ready.0.board event serves.ready.1 source there) (obviate_begins plan serves.sound s.board serves.ready.0.board event serves.ready.1 source there) goes_first).state
+        (reacts_if plan serves.sound s.board serves.ready.0.board event serves.ready.1 obviated_by source source_there (obviates plan serves.sound s.board serves.ready.0.board) place source.obviate s at
+        (obviate_asked plan serves.sound s.board serves.ready.0.board event serves.ready.1 source source_there) (obviate_begins plan serves.sound s.board serves.ready.0.board event serves.ready.1 source source_there) goes_first).state
 
     pub serves_retriggered : ServesAt plan event (reacting plan.schema event place rerated_by source.retrigger s).state
     serves_retriggered =
         serves_still (reacting plan.schema event place rerated_by source.retrigger s).state
-        (reacts_if plan serves.sound s.board serves.ready.0.board event serves.ready.1 rerated_by source there (rerates plan serves.sound s.board serves.ready.0.board) place source.retrigger s at
-        (retrigger_asked plan serves.sound s.board serves.ready.0.board event serves.ready.1 source there) (retrigger_begins plan serves.sound s.board serves.ready.0.board event serves.ready.1 source there) goes_first).state
+        (reacts_if plan serves.sound s.board serves.ready.0.board event serves.ready.1 rerated_by source source_there (rerates plan serves.sound s.board serves.ready.0.board) place source.retrigger s at
+        (retrigger_asked plan serves.sound s.board serves.ready.0.board event serves.ready.1 source source_there) (retrigger_begins plan serves.sound s.board serves.ready.0.board event serves.ready.1 source source_there) goes_first).state
 
     serves_responded : ServesAt plan event (source_response plan.schema event place source s).state
     serves_responded =
         serves_still (source_response plan.schema event place source s).state
-        (source_answers plan serves.sound s.board serves.ready.0.board event serves.ready.1 place source at there s goes_first).state
+        (source_answers plan serves.sound s.board serves.ready.0.board event serves.ready.1 place source at source_there s goes_first).state
 
   serves_by : (place : ℕ) (found : Option Source) → slice_get plan.sources place ≡ found → ServesAt plan event (response_at plan.schema event plan.sources place s).state
   serves_by place None at = subst (λ (o : Option Source). ServesAt plan event (option_map_or (λ source. source_response plan.schema event place source s) o (idle s)).state) (sym at) serves

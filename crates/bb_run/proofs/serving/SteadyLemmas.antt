@@ -12,7 +12,7 @@ use Rattle.bb_run.proofs.serving.ServeCycles.{answer_serves, cycles_serve, post_
 use Rattle.bb_schema.specs.Fits as schemas
 use Rattle.bb_schema.specs.Schema.{Schema}
 use Rattle.bb_theorem_machine.specs.Fits.{Fits}
-use Rattle.bb_trace.specs.Law.{HasSoundCodes, IsMade}
+use Rattle.bb_rules.specs.Law.{HasSoundCodes, IsMade}
 use Rattle.bb_run_plan.specs.Plan.{Plan}
 use Rattle.bb_run.specs.Serving.{IsSteady, Lasts, MayServe}
 use Rattle.bb_run.specs.State.{State}

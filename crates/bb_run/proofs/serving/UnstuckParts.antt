@@ -9,15 +9,15 @@ use Rattle.bb_verify.specs.Accepted.{Checked}
 use Rattle.bb_verify.specs.Budget.{budget}
 use Rattle.bb_verify.specs.declared.checked.TheConstants.{FOUND_LIMIT}
 use Rattle.bb_theorem_machine.proofs.Laws.{activation_never_stuck, activation_reads}
-use Rattle.bb_theorem_machine.specs.Answer.{Answer}
-use Rattle.bb_theorem_machine.specs.Answer.TheVariants as answers
-use Rattle.bb_theorem_machine.specs.Entry.{Entry}
+use Rattle.bb_machine.specs.declared.outcome.Answer.{Answer}
+use Rattle.bb_machine.specs.declared.outcome.Answer.TheVariants as answers
+use Rattle.bb_machine.specs.declared.outcome.Entry.{Entry}
 use Rattle.bb_theorem_machine.specs.Fits.{Fits}
 use Rattle.bb_theorem_machine.specs.Kinds.{WasOf}
 use Rattle.bb_theorem_machine.specs.NeverWrong.{Begins, NeverStuck}
-use Rattle.bb_theorem_machine.specs.Outcome.{Outcome}
-use Rattle.bb_theorem_machine.specs.Stop.{Stop}
-use Rattle.bb_theorem_machine.specs.Stop.TheVariants as stops
+use Rattle.bb_machine.specs.declared.outcome.Outcome.{Outcome}
+use Rattle.bb_machine.specs.declared.outcome.Stop.{Stop}
+use Rattle.bb_machine.specs.declared.outcome.Stop.TheVariants as stops
 use Rattle.bb_schema.specs.Fits as schemas
 use Rattle.bb_agenda.specs.declared.focusing.activation.Activation.{Activation}
 use Rattle.bb_agenda.specs.Agenda.{Agenda, is_full, is_of, pending_for, pending_of}
@@ -26,10 +26,10 @@ use Rattle.bb_agenda.proofs.Laws.{pending_added, pending_obviated, pending_rebas
 use Rattle.bb_trace.specs.Board.{Board as Blackboard}
 use Rattle.bb_trace.specs.Event.{Event}
 use Rattle.bb_trace.specs.Events.{unit_of}
-use Rattle.bb_trace.specs.Law.{HasSoundCodes, IsMade}
-use Rattle.bb_trace.specs.Match.{any_match}
-use Rattle.bb_trace.specs.Reaction.{Reaction}
-use Rattle.bb_trace.specs.Source.{Source}
+use Rattle.bb_rules.specs.Law.{HasSoundCodes, IsMade}
+use Rattle.bb_rules.specs.Match.{any_match}
+use Rattle.bb_rules.specs.declared.source.Reaction.{Reaction}
+use Rattle.bb_rules.specs.Parts.{Source}
 use Rattle.bb_trace.specs.End.{End}
 use Rattle.bb_trace.specs.End as finishes
 use Rattle.bb_trace.specs.declared.note.Note.TheVariants.{Triggered, Declined, Obviated, Retriggered}

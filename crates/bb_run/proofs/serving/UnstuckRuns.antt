@@ -9,29 +9,29 @@ use Rattle.bb_verify.specs.Accepted.{Checked}
 use Rattle.bb_verify.specs.Budget.{budget}
 use Rattle.bb_verify.specs.declared.checked.TheConstants.{FOUND_LIMIT}
 use Rattle.bb_theorem_machine.proofs.Laws.{activation_fits, activation_lasts, activation_never_stuck, activation_schema, activation_within_budget, was_outlives}
-use Rattle.bb_theorem_machine.specs.Answer.{Answer}
-use Rattle.bb_theorem_machine.specs.Answer.TheVariants as answers
+use Rattle.bb_machine.specs.declared.outcome.Answer.{Answer}
+use Rattle.bb_machine.specs.declared.outcome.Answer.TheVariants as answers
 use Rattle.bb_theorem_machine.specs.Fits.{Fits}
 use Rattle.bb_theorem_machine.specs.NeverWrong.{Begins, KeepsBudget as KeepsOwnBudget, NeverStuck}
-use Rattle.bb_theorem_machine.specs.Outcome.{Outcome}
-use Rattle.bb_theorem_machine.specs.Stop.{Stop}
-use Rattle.bb_theorem_machine.specs.Stop.TheVariants as stops
+use Rattle.bb_machine.specs.declared.outcome.Outcome.{Outcome}
+use Rattle.bb_machine.specs.declared.outcome.Stop.{Stop}
+use Rattle.bb_machine.specs.declared.outcome.Stop.TheVariants as stops
 use Rattle.bb_agenda.specs.declared.focusing.activation.Activation.{Activation}
 use Rattle.bb_agenda.specs.Agenda.{pending_of}
 use Rattle.bb_agenda.specs.Changes.{other_than, with_executed}
 use Rattle.bb_agenda.proofs.Laws.{chosen_some, pending_executed, pending_obviated}
-use Rattle.bb_trace.specs.Act.{Act}
-use Rattle.bb_trace.specs.Act.TheVariants as acts
+use Rattle.bb_rules.specs.declared.source.Act.{Act}
+use Rattle.bb_rules.specs.declared.source.Act.TheVariants as acts
 use Rattle.bb_trace.specs.Board.{Board as Blackboard}
 use Rattle.bb_trace.specs.BoardNote.TheVariants.{Event as happened}
 use Rattle.bb_trace.specs.Event.TheVariants.{Quiescence as quiescence}
-use Rattle.bb_trace.specs.Law.{HasSoundCodes, IsMade}
+use Rattle.bb_rules.specs.Law.{HasSoundCodes, IsMade}
 use Rattle.bb_trace.specs.Ask.{Ask}
 use Rattle.bb_trace.specs.Closing.{Closing}
 use Rattle.bb_trace.specs.Native.{Native}
 use Rattle.bb_trace.specs.Roster.{after_act_at, asks_at, closings_of, place_of}
 use Rattle.bb_trace.specs.Sight.{sight_of}
-use Rattle.bb_trace.specs.Source.{Source}
+use Rattle.bb_rules.specs.Parts.{Source}
 use Rattle.bb_trace.specs.End.{End}
 use Rattle.bb_trace.specs.End as finishes
 use Rattle.bb_trace.specs.declared.note.Note.{Note}
@@ -82,14 +82,14 @@ module _ (plan : Plan) (sound : IsWellMade plan) where
   -- ---- an execution for an activation
 
   module _ (source : Source) (a : Activation) (s : State) (at : slice_get plan.sources a.source ≡ Some source) (ready : Ready s) (suits : SuitsSource plan s.board a) where
-    there : Contains plan.sources source
-    there = there_at plan.sources a.source source at
+    source_there : Contains plan.sources source
+    source_there = there_at plan.sources a.source source at
 
     own_made : IsMade plan.schema source
-    own_made = All-contains (IsMade plan.schema) plan.sources source sound.made there
+    own_made = All-contains (IsMade plan.schema) plan.sources source sound.made source_there
 
     codes : (c : Checked) → IsPart source c → IsCode c.code
-    codes c part = code_within source c (All-contains HasSoundCodes plan.sources source sound.codes there) part
+    codes c part = code_within source c (All-contains HasSoundCodes plan.sources source sound.codes source_there) part
 
     pub act_begins : (c : Checked) → source.act ≡ acts.Code c → Begins c.part c.frames c.code (entry_of a.unit None) s.board
     act_begins c is =
@@ -115,8 +115,8 @@ module _ (plan : Plan) (sound : IsWellMade plan) where
           let le : n ≤ n = omega arith in
           activation_never_stuck c.part c.frames c.code (entry_of a.unit None) s.board n is board_schema board_fits begins le
 
-      within : KeepsOwnBudget c.code (attempt c.code (entry_of a.unit None) s.board).0
-      within = activation_within_budget c.part c.frames c.code (entry_of a.unit None) s.board (budget c.code FOUND_LIMIT) is board_schema board_fits begins
+      keeps_budget : KeepsOwnBudget c.code (attempt c.code (entry_of a.unit None) s.board).0
+      keeps_budget = activation_within_budget c.part c.frames c.code (entry_of a.unit None) s.board (budget c.code FOUND_LIMIT) is board_schema board_fits begins
 
       -- what it leaves
       left_ready : Ready (with_board s (attempt c.code (entry_of a.unit None) s.board).1)
@@ -142,7 +142,7 @@ module _ (plan : Plan) (sound : IsWellMade plan) where
       told_by (Err stops.Memory) not kept = well_noted plan sound (with_board s (attempt c.code (entry_of a.unit None) s.board).1) [] (Some finishes.Full) left_ready (All-nil KeepsBudget) refl tt
 
       executes : IsWell (executing c.code a s)
-      executes = told_by (attempt c.code (entry_of a.unit None) s.board).0 never within
+      executes = told_by (attempt c.code (entry_of a.unit None) s.board).0 never keeps_budget
 
       -- a verdict on the activation
       verdict_by_reply : (r : Result Outcome Stop) → NeverStuck r → (end : End) → verdict_by (reply_by r) ≡ verdicts.Over end → NotStuck (Some end)

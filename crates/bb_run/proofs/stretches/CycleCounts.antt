@@ -15,13 +15,13 @@ use Rattle.bb_run.specs.Emitting.{Leaves, Place, Waited}
 use Rattle.bb_run.proofs.stretches.CountLemmas.{cycle_chooses, wait_silent}
 use Rattle.bb_run.proofs.notes.OrderlyParts.{all_of_two}
 use Rattle.bb_run.proofs.notes.PendingLemmas.{chosen_then}
-use Rattle.bb_run.proofs.emitting.EmitLemmas.{act_by, cycle_then, goes_on, no_cycle, one_cycle, over_by, stops}
+use Rattle.bb_run.proofs.emitting.EmitLemmas.{act_by, cycle_then, and_then_left, no_cycle, one_cycle, over_by, stops}
 
 -- a stretch that goes on emits the choices of both parts
 goes_counts : (p : Stretch) (next : State → Stretch) (t : State) → Leaves p t None → choices_of (and_then p next) ≡ choices_of p + choices_of (next t)
 goes_counts p next t left =
     let q = next t in
-    ap choices_of (goes_on p next t left) ∙ (ap (λ l. length (chosen_in l)) (all_of_two p.emitted q.emitted)
+    ap choices_of (and_then_left p next t left) ∙ (ap (λ l. length (chosen_in l)) (all_of_two p.emitted q.emitted)
     ∙ (ap length (chosen_then (notes_of p) (notes_of q)) ∙ length-append (chosen_in (notes_of p)) (chosen_in (notes_of q))))
 
 stop_counts : (p : Stretch) (next : State → Stretch) (t : State) (end : End) → Leaves p t (Some end) → choices_of (and_then p next) ≡ choices_of p

@@ -2,7 +2,7 @@
 use Rattle.std.specs.Prelude.{List, filter, if◌then◌else◌}
 use Rattle.bb_trace.specs.Event.{Event}
 use Rattle.bb_trace.specs.Events.{unit_of}
-use Rattle.bb_trace.specs.Reaction.{Reaction}
+use Rattle.bb_rules.specs.declared.source.Reaction.{Reaction}
 use Rattle.bb_agenda.specs.declared.focusing.activation.Activation.{Activation}
 use Rattle.bb_agenda.specs.Agenda.{is_on}
 use Rattle.bb_rules.specs.Own.{asks_own}

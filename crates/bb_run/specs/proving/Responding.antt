@@ -3,7 +3,7 @@ use Rattle.std.specs.Prelude.{ℕ, List, [], ◌∷◌, slice_get}
 use Rattle.std.specs.Option.{option_map_or}
 use Rattle.bb_schema.specs.Schema.{Schema}
 use Rattle.bb_trace.specs.Event.{Event}
-use Rattle.bb_trace.specs.Source.{Source}
+use Rattle.bb_rules.specs.Parts.{Source}
 use Rattle.bb_run.specs.Processing.{source_response}
 use Rattle.bb_run.specs.State.{State}
 use Rattle.bb_run.specs.Emission.{Response, and_then, idle}

@@ -13,10 +13,8 @@ ghost use Rattle.bb_schema.specs.proving.Readings.{has_slot_at};
 use crate::bare::BareSchema;
 use crate::space::{Dim, Space};
 use bb_basis::{IdSet, Table, Text, is_name};
-use bb_schema_classes::{
-    ClassId, Kind, LabelSetId, ListKey, SchemaFault, SchemaFlaw, placed,
-};
-use bb_schema_form::{DimEntry, SpaceEntry};
+use bb_schema_classes::{ClassId, Kind, LabelSetId, SchemaFault, SchemaFlaw, placed};
+use bb_schema_form::{DimEntry, ListKey, SpaceEntry};
 use std::alloc::Global;
 
 /// The maximum number of spaces.
@@ -40,7 +38,11 @@ fn add_space_class(schema: &BareSchema, listed: &mut IdSet, name: &str) -> Resul
     Ok(())
 }
 
-fn space_classes_of(alloc: Global, schema: &BareSchema, names: &[String]) -> Result<IdSet, SchemaFault>
+fn space_classes_of(
+    alloc: Global,
+    schema: &BareSchema,
+    names: &[String],
+) -> Result<IdSet, SchemaFault>
     ensures { Gives OutOfMemory (λ listed. listed) result
         (try_fold_at (inside lists.Classes) (space_class_after schema.now) 0 [] (map string_bytes names.now)) }
 {

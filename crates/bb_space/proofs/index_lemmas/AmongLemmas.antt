@@ -23,15 +23,15 @@ pub meets_among : (n : ℕ) (list : List ℕ) → list_any (meets (nat_cmp n)) l
 meets_among n [] = refl
 meets_among n (m ∷ ms) = ap₂ (λ a b. a || b) (same_number n m) (meets_among n ms)
 
-turned : (n : ℕ) (list : List ℕ) → list_any (eqb n) list ≡ is_among n list
-turned n [] = refl
-turned n (m ∷ ms) = ap₂ (λ a b. a || b) (nat_eq_equiv.symm n m) (turned n ms)
+any_is_among : (n : ℕ) (list : List ℕ) → list_any (eqb n) list ≡ is_among n list
+any_is_among n [] = refl
+any_is_among n (m ∷ ms) = ap₂ (λ a b. a || b) (nat_eq_equiv.symm n m) (any_is_among n ms)
 
 contained : (n : ℕ) (list : List ℕ) → is_among n list ≡ true → Contains list n
-contained n list h = Contains-from_any eqb-true n list (turned n list ∙ h)
+contained n list h = Contains-from_any eqb-true n list (any_is_among n list ∙ h)
 
 among_from : (n : ℕ) (list : List ℕ) → Contains list n → is_among n list ≡ true
-among_from n list h = sym (turned n list) ∙ list_any-from_Contains nat_eq_equiv n list h
+among_from n list h = sym (any_is_among n list) ∙ list_any-from_Contains nat_eq_equiv n list h
 
 -- each once, all are there
 pub among_dedup : (n : ℕ) (list : List ℕ) → is_among n (dedup eqb list) ≡ is_among n list

@@ -24,21 +24,21 @@ module _ (n : ℕ) (test : Place → Bool) where
   abbrev among : List Place → Bool
   among ks = list_any (λ p. p.unit == n) ks
 
-  later : (k : Place) (ks : List Place) → Found n test ks → Found n test (k ∷ ks)
-  later k ks f = record { place = f.place; there = or_right (is_eq (place_cmp f.place k)) (list_any (meets (place_cmp f.place)) ks) f.there; passes = f.passes; unit = f.unit }
+  found_later : (k : Place) (ks : List Place) → Found n test ks → Found n test (k ∷ ks)
+  found_later k ks f = record { place = f.place; there = or_right (is_eq (place_cmp f.place k)) (list_any (meets (place_cmp f.place)) ks) f.there; passes = f.passes; unit = f.unit }
 
   -- the first, or the others
   found_first : (k : Place) (ks : List Place) → test k ≡ true → ((k.unit == n) ≡ true) ⊎ (among (filter test ks) ≡ true) → (among (filter test ks) ≡ true → Found n test ks) → Found n test (k ∷ ks)
   found_first k ks passes (inl one) others = record { place = k; there = or_left (is_eq (place_cmp k k)) (list_any (meets (place_cmp k)) ks) (place_itself k); passes = passes; unit = eqb-true k.unit n one }
-  found_first k ks passes (inr rest) others = later k ks (others rest)
+  found_first k ks passes (inr rest) others = found_later k ks (others rest)
 
   found_by_test : (k : Place) (ks : List Place) (b : Bool) → test k ≡ b → among (cond b (k ∷ filter test ks) (filter test ks)) ≡ true → (among (filter test ks) ≡ true → Found n test ks) → Found n test (k ∷ ks)
   found_by_test k ks true passes h others = found_first k ks passes (or_cases (k.unit == n) (among (filter test ks)) h) others
-  found_by_test k ks false fails h others = later k ks (others h)
+  found_by_test k ks false fails h others = found_later k ks (others h)
 
-  found : (ks : List Place) → among (filter test ks) ≡ true → Found n test ks
-  found [] h = absurd cc
-  found (k ∷ ks) h = found_by_test k ks (test k) refl h (found ks)
+  found_of_among : (ks : List Place) → among (filter test ks) ≡ true → Found n test ks
+  found_of_among [] h = absurd cc
+  found_of_among (k ∷ ks) h = found_by_test k ks (test k) refl h (found_of_among ks)
 
   kept_after : (k : Place) (ks : List Place) (b : Bool) → among (filter test ks) ≡ true → among (cond b (k ∷ filter test ks) (filter test ks)) ≡ true
   kept_after k ks true h = or_right (k.unit == n) (among (filter test ks)) h
@@ -55,9 +55,9 @@ module _ (n : ℕ) (test : Place → Bool) where
       (λ other. absurd cc)
   kept_by p k ks passes unit (inr rest) others = kept_after k ks (test k) (others rest)
 
-  pub kept : (p : Place) (ks : List Place) → list_any (meets (place_cmp p)) ks ≡ true → test p ≡ true → p.unit ≡ n → among (filter test ks) ≡ true
-  kept p [] there passes unit = absurd cc
-  kept p (k ∷ ks) there passes unit = kept_by p k ks passes unit (or_cases (is_eq (place_cmp p k)) (list_any (meets (place_cmp p)) ks) there) (λ rest. kept p ks rest passes unit)
+  pub met_is_among : (p : Place) (ks : List Place) → list_any (meets (place_cmp p)) ks ≡ true → test p ≡ true → p.unit ≡ n → among (filter test ks) ≡ true
+  met_is_among p [] there passes unit = absurd cc
+  met_is_among p (k ∷ ks) there passes unit = kept_by p k ks passes unit (or_cases (is_eq (place_cmp p k)) (list_any (meets (place_cmp p)) ks) there) (λ rest. met_is_among p ks rest passes unit)
 
 -- ---- units by the values that stand there
 
@@ -78,7 +78,7 @@ never false h g = absurd cc
 pub found_by : (had : ℕ → Option (List DimValue)) (places : BTreeSet Place) → AreOf had places → (test : Place → Bool) (dim : ℕ) (f : DimValue → Bool)
     → ((d n : ℕ) (v : DimValue) (next : Option DimValue) → test (place_of d n v next) ≡ ((d == dim) && f v)) → (n : ℕ)
     → list_any (λ p. p.unit == n) (filter test places.keys) ≡ option_map_or (λ told. option_map_or f (slice_get told dim) false) (had n) false
-found_by had places are test dim f says n = same_truth _ _ (λ h. there (found n test places.keys h)) back
+found_by had places are test dim f says n = same_truth _ _ (λ h. there (found_of_among n test places.keys h)) back
   where
     at_member : Option (List DimValue) → Bool
     at_member o = option_map_or (λ told. option_map_or f (slice_get told dim) false) o false
@@ -112,4 +112,4 @@ found_by had places are test dim f says n = same_truth _ _ (λ h. there (found n
                 let p = place_in dim n values v in
                 let at : is_at values p ≡ true = at_of n values p (is_here n dim values v value) in
                 let told : is_had had p ≡ true = ap (λ o. option_map_or (λ values. is_at values p) o false) some ∙ at in
-                kept n test p places.keys (are.full p told) (says dim n v (next_of values dim) ∙ and_from (dim == dim) (f v) (eq-eqb dim dim refl) g2) refl
+                met_is_among n test p places.keys (are.full p told) (says dim n v (next_of values dim) ∙ and_from (dim == dim) (f v) (eq-eqb dim dim refl) g2) refl

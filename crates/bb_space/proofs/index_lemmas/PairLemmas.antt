@@ -24,7 +24,7 @@ use Rattle.bb_space.specs.index.Among.{is_among}
 use Rattle.bb_space.specs.index.proving.Stretches.{spot, stretch_of, has_one_key, turned, beside, all_beside, places_in, stands_in}
 use Rattle.bb_space.specs.index.proving.Pairs.{is_near_both, AreThere, Tells, IsAsked, AreNearBoth, AreAllNear}
 use Rattle.bb_space.proofs.index_lemmas.CandidateLemmas.{passing}
-use Rattle.bb_space.proofs.index_lemmas.NearLemmas.{kept, is_had, AreOf}
+use Rattle.bb_space.proofs.index_lemmas.NearLemmas.{met_is_among, is_had, AreOf}
 use Rattle.bb_space.proofs.index_lemmas.PlaceLemmas.{equal, place_in, place_itself, is_here, of_unit, at_of}
 use Rattle.bb_space.proofs.index_lemmas.StretchLemmas.{IsEdge, AreSpots, spots_of, spots_turned, is_up_to, up_to_says, takes, is_in, not_less, between, spot_le, is_turned, low_reaches, asks_of, asked_says, turned_says, either_way}
 
@@ -101,7 +101,7 @@ pin_is leaf v one asks =
 -- ---- who passes both
 
 stands_there : (stretch : Stretch) (p : Place) (places : BTreeSet Place) (n : ℕ) → has places p ≡ true → is_in stretch p ≡ true → p.unit ≡ n → stands_in stretch places n ≡ true
-stands_there stretch p places n there passes unit = kept n (is_in stretch) p places.keys there passes unit
+stands_there stretch p places n there passes unit = met_is_among n (is_in stretch) p places.keys there passes unit
 
 near_both : (first next : Leaf) (places : BTreeSet Place) (n : ℕ) (values : List DimValue) → has_one_key (stretch_of first) ≡ true → Tells places (dim_of first) (dim_of next)
     → AreThere places n values → fits_leaf first values ≡ true → fits_leaf next values ≡ true → is_near_both (stretch_of first).first (all_beside (stretch_of first).first (stretch_of next)) places n ≡ true

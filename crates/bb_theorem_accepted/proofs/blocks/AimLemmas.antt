@@ -6,8 +6,8 @@ use Rattle.std.proofs.Math.Seq.{set-append_seam}
 use Rattle.std.proofs.lemmas.Bool.{eqb-true}
 use Rattle.std.proofs.lemmas.List.{append-nil}
 use Rattle.bb_code.specs.Code.{Code}
-use Rattle.bb_verify_effect.specs.Op.{Op}
-use Rattle.bb_verify_effect.specs.Op.TheVariants as ops
+use Rattle.bb_code.specs.declared.op.Op.{Op}
+use Rattle.bb_code.specs.declared.op.Op.TheVariants as ops
 use Rattle.bb_compile_buffer.specs.declared.buffer.Buffer.{Buffer}
 use Rattle.bb_compile_buffer.specs.Buffers.{aimed, with_aimed, aimed_at}
 use Rattle.bb_theorem_accepted.proofs.buffers.BufferLemmas.{Grown, Has, is_open, both_grown, seam, front}
@@ -138,14 +138,14 @@ module _ (a u v : Buffer) (es : List Op) (some : 1 ≤ length es) (put_ops : u.o
   block_ops = g.ops_are ∙ (ap (λ l. l ++ g.ops) put_ops ∙ append_assoc a.ops es g.ops)
 
   -- the places of a list with ops of this number in the middle
-  counted : (ps ys : List Op) → length es ≡ length ps → length (a.ops ++ (ps ++ ys)) ≡ length a.ops + length es + length ys
-  counted ps ys same =
+  appended_length : (ps ys : List Op) → length es ≡ length ps → length (a.ops ++ (ps ++ ys)) ≡ length a.ops + length es + length ys
+  appended_length ps ys same =
       let whole : length (a.ops ++ (ps ++ ys)) ≡ length a.ops + length (ps ++ ys) = length-append a.ops (ps ++ ys) in
       let both : length (ps ++ ys) ≡ length ps + length ys = length-append ps ys in
       omega (arith, whole, both, same)
 
   block_places : length v.ops ≡ length a.ops + length es + length g.ops
-  block_places = ap length block_ops ∙ counted es g.ops refl
+  block_places = ap length block_ops ∙ appended_length es g.ops refl
 
   pub block_texts : v.texts ≡ a.texts ++ g.texts
   block_texts = g.texts_are ∙ ap (λ l. l ++ g.texts) put_texts
@@ -170,7 +170,7 @@ module _ (a u v : Buffer) (es : List Op) (some : 1 ≤ length es) (put_ops : u.o
 
     pub aims_count : length t.ops ≡ length v.ops + length more
     aims_count =
-        let whole : length t.ops ≡ length a.ops + length es + length (g.ops ++ more) = ap length is ∙ counted (all_aimed es at) (g.ops ++ more) (same_aimed es at) in
+        let whole : length t.ops ≡ length a.ops + length es + length (g.ops ++ more) = ap length is ∙ appended_length (all_aimed es at) (g.ops ++ more) (same_aimed es at) in
         let both : length (g.ops ++ more) ≡ length g.ops + length more = length-append g.ops more in
         let block = block_places in
         omega (arith, whole, both, block)
@@ -193,7 +193,7 @@ module _ (a u v : Buffer) (es : List Op) (some : 1 ≤ length es) (put_ops : u.o
   pub behind_count : length (aims (length a.ops) (length es) v.ops) ≡ length v.ops
   behind_count =
       let whole : length (aims (length a.ops) (length es) v.ops) ≡ length a.ops + length es + length (g.ops ++ []) =
-      ap length aimed_behind ∙ counted (all_aimed es (length v.ops)) (g.ops ++ []) (same_aimed es (length v.ops)) in
+      ap length aimed_behind ∙ appended_length (all_aimed es (length v.ops)) (g.ops ++ []) (same_aimed es (length v.ops)) in
       let none : length (g.ops ++ []) ≡ length g.ops = ap length (append-nil g.ops) in
       let block = block_places in
       omega (arith, whole, none, block)
@@ -218,8 +218,8 @@ module _ (a u v : Buffer) (es : List Op) (some : 1 ≤ length es) (put_ops : u.o
 
     same_count : length (v.ops ++ jump) ≡ length x.ops
     same_count =
-        ap length all_ops ∙ (counted es (g.ops ++ jump) refl
-        ∙ (sym (counted (all_aimed es (length (v.ops ++ jump))) (g.ops ++ jump) (same_aimed es (length (v.ops ++ jump)))) ∙ ap length (sym with_jump)))
+        ap length all_ops ∙ (appended_length es (g.ops ++ jump) refl
+        ∙ (sym (appended_length (all_aimed es (length (v.ops ++ jump))) (g.ops ++ jump) (same_aimed es (length (v.ops ++ jump)))) ∙ ap length (sym with_jump)))
 
     pub jump_count : length x.ops ≡ length v.ops + 1
     jump_count = sym same_count ∙ length-append v.ops jump
@@ -239,7 +239,7 @@ module _ (a u v : Buffer) (es : List Op) (some : 1 ≤ length es) (put_ops : u.o
     until = a.ops ++ (now ++ g.ops)
 
     until_count : length v.ops ≡ length until
-    until_count = block_places ∙ sym (counted now g.ops (same_aimed es (length x.ops)))
+    until_count = block_places ∙ sym (appended_length now g.ops (same_aimed es (length x.ops)))
 
     cut : (l : List Op) → until ++ l ≡ a.ops ++ (now ++ (g.ops ++ l))
     cut l = cut_at a.ops now g.ops l

@@ -6,9 +6,9 @@ use Rattle.bb_code.specs.declared.frame.Loop.{Loop}
 use Rattle.bb_basis.specs.Results.{◌>>=◌}
 use Rattle.bb_basis.proofs.ResultLemmas.{bind_ok}
 use Rattle.bb_verify_effect.specs.declared.part.Part.{Part}
-use Rattle.bb_verify_effect.specs.Kind.{Kind}
-use Rattle.bb_verify_effect.specs.Op.TheVariants as ops
-use Rattle.bb_verify_effect.specs.Schema.{Schema}
+use Rattle.bb_code.specs.declared.frame.Kind.{Kind}
+use Rattle.bb_code.specs.declared.op.Op.TheVariants as ops
+use Rattle.bb_schema.specs.Schema.{Schema}
 use Rattle.bb_lang.specs.Action.{Action}
 use Rattle.bb_compile_scope.specs.declared.scope.Mark.{Mark}
 use Rattle.bb_compile.specs.declared.exits.Exits.{Exits}
@@ -112,8 +112,8 @@ module _ (s u v : Buffer) (exits : Exits) (gd : Guard s u exits) (block : Lays u
   base = gd.behind
 
   -- what comes after the test, up to the end of the first block
-  abbrev whole : Grown gd.tested v
-  whole = grown_on gd.tested u v gd.named block.grown
+  abbrev tested_grown : Grown gd.tested v
+  tested_grown = grown_on gd.tested u v gd.named block.grown
 
   count_u : length s.ops < length u.ops
   count_u =
@@ -135,22 +135,22 @@ module _ (s u v : Buffer) (exits : Exits) (gd : Guard s u exits) (block : Lays u
   inner_locals : s.locals ≤ v.locals
   inner_locals = let one = gd.adds.locals in let two = gd.locals in let three = block.locals in omega (arith, one, two, three)
 
-  below : (p : ℕ) → p ≤ length s.ops → p < length v.ops
-  below p low = let up = count_u in let behind = count_of u v block.grown in omega (arith, low, up, behind)
+  below_end : (p : ℕ) → p ≤ length s.ops → p < length v.ops
+  below_end p low = let up = count_u in let behind = count_of u v block.grown in omega (arith, low, up, behind)
 
   absent_lays : (t : Buffer) (ended now : Bool) (before inner : Mark) → AbsentLaid before (length base.ops) (length gd.es) ended (leave before (leave inner v)) t now → LaysOne s t
   absent_lays t ended now before inner al =
-      let all = al.alike.ops ∙ aimed_behind base gd.tested v gd.es gd.some gd.ops gd.texts gd.queries whole in
-      let same_place = behind_count base gd.tested v gd.es gd.some gd.ops gd.texts gd.queries whole in
+      let all = al.alike.ops ∙ aimed_behind base gd.tested v gd.es gd.some gd.ops gd.texts gd.queries tested_grown in
+      let same_place = behind_count base gd.tested v gd.es gd.some gd.ops gd.texts gd.queries tested_grown in
       let locals_t : t.locals ≡ v.locals = al.alike.locals in
       let one = inner_locals in
       record {
-        grown = grown_on s base t gd.adds.grown (aims_grown base gd.tested v gd.es gd.some gd.ops gd.texts gd.queries whole t (length v.ops) [] all (same_more v t al.alike.texts al.alike.queries));
+        grown = grown_on s base t gd.adds.grown (aims_grown base gd.tested v gd.es gd.some gd.ops gd.texts gd.queries tested_grown t (length v.ops) [] all (same_more v t al.alike.texts al.alike.queries));
         loops = block.loops;
         loops_are = al.alike.loops ∙ inner_loops;
         locals = omega (arith, one, locals_t);
         marks = λ p low.
-            let lt = below p low in
+            let lt = below_end p low in
             marks_before v t (length (aims (length base.ops) (length gd.es) v.ops)) p t.scope.kinds al.labels al.last (omega (arith, lt, same_place)) ∙ first_marks p low;
         clean = gd.adds.clean gd.clean_behind;
       }
@@ -163,21 +163,21 @@ module _ (s u v : Buffer) (exits : Exits) (gd : Guard s u exits) (block : Lays u
       let x = el.inner in
       let y = el.end in
       let other = own now x y el.block_is in
-      let count_x : length x.ops ≡ length v.ops = ap length el.begun.ops ∙ behind_count base gd.tested v gd.es gd.some gd.ops gd.texts gd.queries whole in
+      let count_x : length x.ops ≡ length v.ops = ap length el.begun.ops ∙ behind_count base gd.tested v gd.es gd.some gd.ops gd.texts gd.queries tested_grown in
       let count_y = count_of x y other.grown in
       let locals_x : x.locals ≡ v.locals = el.begun.locals in
       let locals_t : t.locals ≡ y.locals = el.alike.locals in
       let one = inner_locals in
       let two = other.locals in
-      let all = aimed_before base gd.tested v gd.es gd.some gd.ops gd.texts gd.queries whole x y el.begun.ops other.grown in
+      let all = aimed_before base gd.tested v gd.es gd.some gd.ops gd.texts gd.queries tested_grown x y el.begun.ops other.grown in
       record {
-        grown = grown_on s base t gd.adds.grown (aims_grown base gd.tested v gd.es gd.some gd.ops gd.texts gd.queries whole t (length v.ops) other.grown.ops (el.alike.ops ∙ all)
+        grown = grown_on s base t gd.adds.grown (aims_grown base gd.tested v gd.es gd.some gd.ops gd.texts gd.queries tested_grown t (length v.ops) other.grown.ops (el.alike.ops ∙ all)
             (more_after v x y t el.begun.texts el.begun.queries other.grown el.alike.texts el.alike.queries));
         loops = block.loops ++ other.loops;
         loops_are = both_grown s.loops x.loops t.loops block.loops other.loops (el.begun.loops ∙ inner_loops) (el.alike.loops ∙ other.loops_are);
         locals = omega (arith, one, two, locals_x, locals_t);
         marks = λ p low.
-            let lt = below p low in
+            let lt = below_end p low in
             ap (λ l. label_at l p) (same_labels y t el.labels_after el.last_after)
             ∙ (other.marks p (omega (arith, lt, count_x)) (omega (arith, lt, count_x, count_y)) ∙ (marks_before v x (length x.ops) p x.scope.kinds el.labels el.last (omega (arith, lt, count_x)) ∙ first_marks p low));
         clean = gd.adds.clean gd.clean_behind;
@@ -187,21 +187,21 @@ module _ (s u v : Buffer) (exits : Exits) (gd : Guard s u exits) (block : Lays u
       let y = el.end in
       let other = own el.ended x y el.block_is in
       let h = other.grown in
-      let count_x = jump_count base gd.tested v gd.es gd.some gd.ops gd.texts gd.queries whole x y t el.begun.ops h el.alike.ops in
+      let count_x = jump_count base gd.tested v gd.es gd.some gd.ops gd.texts gd.queries tested_grown x y t el.begun.ops h el.alike.ops in
       let count_y = count_of x y h in
-      let count_t = end_count base gd.tested v gd.es gd.some gd.ops gd.texts gd.queries whole x y t el.begun.ops h el.alike.ops in
+      let count_t = end_count base gd.tested v gd.es gd.some gd.ops gd.texts gd.queries tested_grown x y t el.begun.ops h el.alike.ops in
       let locals_x : x.locals ≡ v.locals = el.begun.locals in
       let locals_t : t.locals ≡ y.locals = el.alike.locals in
       let one = inner_locals in
       let two = other.locals in
       record {
-        grown = grown_on s base t gd.adds.grown (aims_grown base gd.tested v gd.es gd.some gd.ops gd.texts gd.queries whole t (length x.ops) (ops.Jump (length y.ops) ∷ h.ops)
-            (closed_is base gd.tested v gd.es gd.some gd.ops gd.texts gd.queries whole x y t el.begun.ops h el.alike.ops) (more_after v x y t el.begun.texts el.begun.queries h el.alike.texts el.alike.queries));
+        grown = grown_on s base t gd.adds.grown (aims_grown base gd.tested v gd.es gd.some gd.ops gd.texts gd.queries tested_grown t (length x.ops) (ops.Jump (length y.ops) ∷ h.ops)
+            (closed_is base gd.tested v gd.es gd.some gd.ops gd.texts gd.queries tested_grown x y t el.begun.ops h el.alike.ops) (more_after v x y t el.begun.texts el.begun.queries h el.alike.texts el.alike.queries));
         loops = block.loops ++ other.loops;
         loops_are = both_grown s.loops x.loops t.loops block.loops other.loops (el.begun.loops ∙ inner_loops) (el.alike.loops ∙ other.loops_are);
         locals = omega (arith, one, two, locals_x, locals_t);
         marks = λ p low.
-            let lt = below p low in
+            let lt = below_end p low in
             marks_before y t (length t.ops) p t.scope.kinds el.labels_after el.last_after (omega (arith, lt, count_x, count_y, count_t))
             ∙ (other.marks p (omega (arith, lt, count_x)) (omega (arith, lt, count_x, count_y)) ∙ (marks_before v x (length x.ops) p x.scope.kinds el.labels el.last (omega (arith, lt, count_x)) ∙ first_marks p low));
         clean = gd.adds.clean gd.clean_behind;

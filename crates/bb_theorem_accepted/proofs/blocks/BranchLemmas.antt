@@ -5,10 +5,10 @@ use Rattle.bb_basis.specs.Results.{◌>>=◌}
 use Rattle.bb_basis.proofs.ResultLemmas.{bind_ok}
 use Rattle.bb_code.specs.declared.parts.TheConstants.{STACK_LIMIT}
 use Rattle.bb_verify_effect.specs.declared.part.Part.{Part}
-use Rattle.bb_verify_effect.specs.Kind.{Kind}
-use Rattle.bb_verify_effect.specs.Kind.TheVariants.{Bool as Truth}
-use Rattle.bb_verify_effect.specs.Op.TheVariants as ops
-use Rattle.bb_verify_effect.specs.Schema.{Schema}
+use Rattle.bb_code.specs.declared.frame.Kind.{Kind}
+use Rattle.bb_code.specs.declared.frame.Kind.TheVariants.{Bool as Truth}
+use Rattle.bb_code.specs.declared.op.Op.TheVariants as ops
+use Rattle.bb_schema.specs.Schema.{Schema}
 use Rattle.bb_lang.specs.Binding.{Binding}
 use Rattle.bb_lang.specs.Blocks.{BlockTree, OtherwiseTree, if_of, with_of, absent, otherwise}
 use Rattle.bb_lang.specs.Trees.{ExprTree}

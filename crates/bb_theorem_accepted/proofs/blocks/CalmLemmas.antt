@@ -8,11 +8,11 @@ use Rattle.bb_code.specs.declared.parts.TheConstants.{STACK_LIMIT}
 use Rattle.bb_schema.specs.Schema.{Schema, class_named}
 use Rattle.bb_verify_effect.specs.declared.part.Part.{Part}
 use Rattle.bb_verify_effect.specs.Part.{writes}
-use Rattle.bb_verify_effect.specs.Kind.{Kind}
-use Rattle.bb_verify_effect.specs.Kind.TheVariants as kinds
+use Rattle.bb_code.specs.declared.frame.Kind.{Kind}
+use Rattle.bb_code.specs.declared.frame.Kind.TheVariants as kinds
 use Rattle.bb_verify_effect.specs.Kinds.{struck}
-use Rattle.bb_verify_effect.specs.Op.{Op}
-use Rattle.bb_verify_effect.specs.Op.TheVariants as ops
+use Rattle.bb_code.specs.declared.op.Op.{Op}
+use Rattle.bb_code.specs.declared.op.Op.TheVariants as ops
 use Rattle.bb_lang.specs.Action.{Action}
 use Rattle.bb_lang.specs.Action.TheVariants as actions
 use Rattle.bb_lang.specs.Binding.{Binding}
@@ -40,7 +40,7 @@ use Rattle.bb_theorem_accepted.proofs.blocks.GuardLemmas.{Guard, exits_of, teste
 use Rattle.bb_theorem_accepted.proofs.kinds.KnowLemmas.{is_sequence}
 use Rattle.bb_theorem_accepted.proofs.straight.StoreLemmas.{declared_on, declare_is}
 use Rattle.bb_theorem_accepted.proofs.buffers.QuietLemmas.{is_calm, AreCalm, are_calm, calm_on}
-use Rattle.bb_theorem_accepted.proofs.buffers.StayLemmas.{Stays, same_on, itself, behind, same, keeps_ok, flawed, unless_flawed, put_keeps, variable_keeps, unit_keeps, expr_keeps}
+use Rattle.bb_theorem_accepted.proofs.buffers.StayLemmas.{Stays, same_on, itself, behind, stays_same, keeps_ok, flawed, unless_flawed, put_keeps, variable_keeps, unit_keeps, expr_keeps}
 use Rattle.bb_theorem_accepted.proofs.buffers.StillLemmas.{is_still, action_keeps}
 
 -- what a buffer has more is calm where the other one ended
@@ -129,7 +129,7 @@ module _ (schema : Schema) where
 
       by_local : (made : Made) (u : Buffer) → Stays s u → (o : Option ℕ) → assign_to schema o made u ≡ Ok t → Calm s t
       by_local made u g None h = noted_calm u (noted Unknown u) g (flawed Unknown u) (same_ok (noted Unknown u) t h)
-      by_local None u g (Some local) h = noted_calm u u g (same u) (same_ok u t h)
+      by_local None u g (Some local) h = noted_calm u u g (stays_same u) (same_ok u t h)
       by_local (Some kind) u g (Some local) h = by_assigned kind u local g (assigned schema (kind_at u.scope.kinds local) kind) refl h
 
   delete_calm : (unit : Variable) (s t : Buffer) → delete_code schema unit s ≡ Ok t → Calm s t

@@ -6,11 +6,11 @@ use Rattle.std.proofs.Math.Nat.{le-max_left}
 use Rattle.std.proofs.lemmas.List.{append-nil}
 use Rattle.bb_code.specs.declared.parts.TheConstants.{STACK_LIMIT}
 use Rattle.bb_verify_effect.specs.declared.part.Part.{Part}
-use Rattle.bb_verify_effect.specs.Kind.{Kind}
-use Rattle.bb_verify_effect.specs.Kind.TheVariants.{Ref}
-use Rattle.bb_verify_effect.specs.Op.{Op}
-use Rattle.bb_verify_effect.specs.Op.TheVariants as ops
-use Rattle.bb_verify_effect.specs.Schema.{Schema}
+use Rattle.bb_code.specs.declared.frame.Kind.{Kind}
+use Rattle.bb_code.specs.declared.frame.Kind.TheVariants.{Ref}
+use Rattle.bb_code.specs.declared.op.Op.{Op}
+use Rattle.bb_code.specs.declared.op.Op.TheVariants as ops
+use Rattle.bb_schema.specs.Schema.{Schema}
 use Rattle.bb_lang.specs.Binding.{Binding}
 use Rattle.bb_lang.specs.Binding.TheVariants as bindings
 use Rattle.bb_lang.specs.Blocks.{BlockTree, OtherwiseTree, absent, otherwise}

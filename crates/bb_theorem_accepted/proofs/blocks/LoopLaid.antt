@@ -6,9 +6,9 @@ use Rattle.bb_basis.specs.Results.{◌>>=◌, ok_or}
 use Rattle.bb_basis.proofs.ResultLemmas.{bind_ok, guard_ok, same_ok, ok_or_ok}
 use Rattle.bb_code.specs.declared.parts.TheConstants.{STACK_LIMIT, LOOP_LIMIT}
 use Rattle.bb_verify_effect.specs.declared.part.Part.{Part}
-use Rattle.bb_verify_effect.specs.Kind.TheVariants.{Ref, Seq}
-use Rattle.bb_verify_effect.specs.Op.TheVariants as ops
-use Rattle.bb_verify_effect.specs.Schema.{Schema}
+use Rattle.bb_code.specs.declared.frame.Kind.TheVariants.{Ref, Seq}
+use Rattle.bb_code.specs.declared.op.Op.TheVariants as ops
+use Rattle.bb_schema.specs.Schema.{Schema}
 use Rattle.bb_lang.specs.Sequence.{Sequence}
 use Rattle.bb_lang.specs.View.{sequence_of}
 use Rattle.bb_lang.specs.Blocks.{BlockTree, for_of}

@@ -6,16 +6,16 @@ use Rattle.std.proofs.lemmas.List.{append-nil}
 use Rattle.bb_compile_scope.specs.declared.scope.Scope.{Scope}
 use Rattle.bb_schema.specs.Schema.{Schema}
 use Rattle.bb_schema.specs.Fits as schemas
-use Rattle.bb_verify_effect.specs.Code.{Code}
-use Rattle.bb_verify_effect.specs.Kind.{Kind}
-use Rattle.bb_verify_effect.specs.Op.{Op}
+use Rattle.bb_code.specs.Code.{Code}
+use Rattle.bb_code.specs.declared.frame.Kind.{Kind}
+use Rattle.bb_code.specs.declared.op.Op.{Op}
 use Rattle.bb_compile_scope.specs.LocalKinds.{kinds_left}
 use Rattle.bb_compile_scope.specs.Scope.{mark_of}
 use Rattle.bb_compile_buffer.specs.declared.buffer.Buffer.{Buffer}
 use Rattle.bb_compile_buffer.specs.Buffers.{leave}
 use Rattle.bb_compile.specs.declared.exits.Exits.{Exits}
-use Rattle.bb_verify.specs.FrameType.{Frame}
-use Rattle.bb_verify.specs.PartType.{Part}
+use Rattle.bb_verify_effect.specs.declared.frame.Frame.{Frame}
+use Rattle.bb_verify_effect.specs.declared.part.Part.{Part}
 use Rattle.bb_verify.specs.Places.{target_due}
 use Rattle.bb_theorem_accepted.proofs.buffers.BufferLemmas.{Grown, Has, grown_on, has_before, count_of}
 use Rattle.bb_theorem_accepted.proofs.blocks.BranchLemmas.{AbsentLaid}
@@ -59,8 +59,8 @@ module _ (schema : Schema) (sf : schemas.Fits schema) (part : Part) (code : Code
     abbrev w : Buffer
     w = leave (mark_of r.scope) (leave (mark_of u.scope) v)
 
-    abbrev whole : Grown u v → Grown r v
-    whole g = grown_on r u v gd.named g
+    abbrev grown_from_test : Grown u v → Grown r v
+    grown_from_test g = grown_on r u v gd.named g
 
     long : length u.ops ≤ length v.ops
     long = let e = count_of u v block.grown in omega (arith, e)
@@ -72,25 +72,25 @@ module _ (schema : Schema) (sf : schemas.Fits schema) (part : Part) (code : Code
     unfolding aims_grown grown_on
     absent_goes t ended now al sound agrees own =
         let n = length (aims (length a.ops) (length gd.es) v.ops) in
-        let same_n : n ≡ length v.ops = behind_count a r v gd.es gd.some gd.ops gd.texts gd.queries (whole block.grown) in
+        let same_n : n ≡ length v.ops = behind_count a r v gd.es gd.some gd.ops gd.texts gd.queries (grown_from_test block.grown) in
         let count_t : length t.ops ≡ n = ap length al.alike.ops in
         let up = ahead schema sf part code s u exits gd in
         let le_v = long in
         let le_u = short in
-        let all = al.alike.ops ∙ aimed_behind a r v gd.es gd.some gd.ops gd.texts gd.queries (whole block.grown) in
+        let all = al.alike.ops ∙ aimed_behind a r v gd.es gd.some gd.ops gd.texts gd.queries (grown_from_test block.grown) in
         let more_v = same_more v t al.alike.texts al.alike.queries in
         let agrees_v : AgreesHere v = record {
-          has = aims_has a r v gd.es gd.some gd.ops gd.texts gd.queries (whole block.grown) t (length v.ops) [] all more_v code gd.opens agrees.has;
+          has = aims_has a r v gd.es gd.some gd.ops gd.texts gd.queries (grown_from_test block.grown) t (length v.ops) [] all more_v code gd.opens agrees.has;
           within = let le = agrees.within in omega (arith, le, count_t, same_n);
           locals = let le = agrees.locals in let same : t.locals ≡ v.locals = al.alike.locals in omega (arith, le, same);
           frames = λ p lt. agrees.frames p (omega (arith, lt, count_t, same_n)) ∙ ap (option_map (frame_by code.locals)) (marks_before v t n p t.scope.kinds al.labels al.last (omega (arith, lt, same_n)));
         } in
-        let m = guides (has_before code a t (aims_grown a r v gd.es gd.some gd.ops gd.texts gd.queries (whole block.grown) t (length v.ops) [] all more_v) agrees.has) in
+        let m = guides (has_before code a t (aims_grown a r v gd.es gd.some gd.ops gd.texts gd.queries (grown_from_test block.grown) t (length v.ops) [] all more_v) agrees.has) in
         let sound_u = in_sound schema sf part code s u exits gd m sound in
         let tidy_r = (in_moves schema sf part code s u exits gd m sound).tidy sound.tidy in
         let gv = own sound_u agrees_v in
         let g = gv.grown in
-        let all_v = al.alike.ops ∙ aimed_behind a r v gd.es gd.some gd.ops gd.texts gd.queries (whole g) in
+        let all_v = al.alike.ops ∙ aimed_behind a r v gd.es gd.some gd.ops gd.texts gd.queries (grown_from_test g) in
         let names_are : t.scope.names ≡ r.scope.names = al.names ∙ names_twice schema sf part code r u v m.moves gv.moves in
         let left = kinds_left u.scope.kinds v.scope.kinds in
         let once = agree_on r.scope.kinds u.scope.kinds left (m.moves.agree tidy_r) (agree_left u.scope.kinds v.scope.kinds (gv.moves.agree sound_u.tidy)) in
@@ -124,7 +124,7 @@ module _ (schema : Schema) (sf : schemas.Fits schema) (part : Part) (code : Code
         agrees.frames (length s.ops) lt_t
         ∙ ap (option_map (frame_by code.locals)) (marks_before v t n (length s.ops) t.scope.kinds al.labels al.last (omega (arith, lt_t, count_t))
         ∙ (block.marks (length s.ops) (omega (arith, up)) (omega (arith, lt_t, count_v)) ∙ ap (λ ls. label_at ls (length s.ops)) (in_labels schema sf part code s u exits gd))) in
-        let grown_t = grown_on s a t m.grown (aims_grown a r v gd.es gd.some gd.ops gd.texts gd.queries (whole g) t (length v.ops) [] all_v more_v) in
+        let grown_t = grown_on s a t m.grown (aims_grown a r v gd.es gd.some gd.ops gd.texts gd.queries (grown_from_test g) t (length v.ops) [] all_v more_v) in
         record {
           grown = grown_t;
           moves = moves_on schema sf s r t (in_moves schema sf part code s u exits gd m sound) moves_t;

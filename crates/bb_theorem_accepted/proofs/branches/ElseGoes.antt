@@ -6,18 +6,18 @@ use Rattle.std.proofs.lemmas.List.{append-nil}
 use Rattle.bb_compile_scope.specs.declared.scope.Scope.{Scope}
 use Rattle.bb_schema.specs.Schema.{Schema}
 use Rattle.bb_schema.specs.Fits as schemas
-use Rattle.bb_verify_effect.specs.Code.{Code}
-use Rattle.bb_verify_effect.specs.Kind.{Kind}
-use Rattle.bb_verify_effect.specs.Op.{Op}
-use Rattle.bb_verify_effect.specs.Op.TheVariants as ops
+use Rattle.bb_code.specs.Code.{Code}
+use Rattle.bb_code.specs.declared.frame.Kind.{Kind}
+use Rattle.bb_code.specs.declared.op.Op.{Op}
+use Rattle.bb_code.specs.declared.op.Op.TheVariants as ops
 use Rattle.bb_lang.specs.Blocks.{BlockTree}
 use Rattle.bb_compile_scope.specs.LocalKinds.{is_free, kind_at, kinds_left}
 use Rattle.bb_compile_scope.specs.Scope.{mark_of}
 use Rattle.bb_compile_buffer.specs.declared.buffer.Buffer.{Buffer}
 use Rattle.bb_compile_buffer.specs.Buffers.{leave}
 use Rattle.bb_compile.specs.declared.exits.Exits.{Exits}
-use Rattle.bb_verify.specs.FrameType.{Frame}
-use Rattle.bb_verify.specs.PartType.{Part}
+use Rattle.bb_verify_effect.specs.declared.frame.Frame.{Frame}
+use Rattle.bb_verify_effect.specs.declared.part.Part.{Part}
 use Rattle.bb_verify.specs.Places.{target_due}
 use Rattle.bb_theorem_accepted.proofs.buffers.BufferLemmas.{Grown, Has, grown_none, grown_on, has_before, count_of}
 use Rattle.bb_theorem_accepted.proofs.blocks.BranchLemmas.{ElseEnded, ElseOn}
@@ -65,8 +65,8 @@ module _ (schema : Schema) (sf : schemas.Fits schema) (part : Part) (code : Code
     abbrev w : Buffer
     w = leave (mark_of r.scope) (leave (mark_of u.scope) v)
 
-    abbrev whole : Grown u v → Grown r v
-    whole g = grown_on r u v gd.named g
+    abbrev grown_from_test : Grown u v → Grown r v
+    grown_from_test g = grown_on r u v gd.named g
 
     long : length u.ops ≤ length v.ops
     long = let e = count_of u v block.grown in omega (arith, e)
@@ -84,13 +84,13 @@ module _ (schema : Schema) (sf : schemas.Fits schema) (part : Part) (code : Code
           let le_v = long in
           let le_u = short in
           let up = ahead schema sf part code s u exits gd in
-          let count_x : length x.ops ≡ length v.ops = ap length el.begun.ops ∙ behind_count a r v gd.es gd.some gd.ops gd.texts gd.queries (whole block.grown) in
+          let count_x : length x.ops ≡ length v.ops = ap length el.begun.ops ∙ behind_count a r v gd.es gd.some gd.ops gd.texts gd.queries (grown_from_test block.grown) in
           let count_y = count_of x y h in
           let count_t : length t.ops ≡ length y.ops = ap length el.alike.ops in
           let locals_x : x.locals ≡ v.locals = el.begun.locals in
           let locals_t : t.locals ≡ y.locals = el.alike.locals in
           let labels_t = same_labels y t el.labels_after el.last_after in
-          let y_ops = aimed_before a r v gd.es gd.some gd.ops gd.texts gd.queries (whole block.grown) x y el.begun.ops h in
+          let y_ops = aimed_before a r v gd.es gd.some gd.ops gd.texts gd.queries (grown_from_test block.grown) x y el.begun.ops h in
           let has_y = has_before code y t (grown_none y t el.alike.ops el.alike.texts el.alike.queries) agrees.has in
           let more_y = more_after v x y y el.begun.texts el.begun.queries h refl refl in
           let more_t = more_after v x y t el.begun.texts el.begun.queries h el.alike.texts el.alike.queries in
@@ -107,12 +107,12 @@ module _ (schema : Schema) (sf : schemas.Fits schema) (part : Part) (code : Code
           let marks_v : (p : ℕ) → p < length v.ops → label_at (labels_of y) p ≡ label_at (labels_of v) p =
           λ p lt. other.marks p (omega (arith, lt, count_x)) (omega (arith, lt, count_x, count_y)) ∙ marks_before v x (length x.ops) p x.scope.kinds el.labels el.last (omega (arith, lt, count_x)) in
           let agrees_v : AgreesHere v = record {
-            has = aims_has a r v gd.es gd.some gd.ops gd.texts gd.queries (whole block.grown) y (length v.ops) h.ops y_ops more_y code gd.opens has_y;
+            has = aims_has a r v gd.es gd.some gd.ops gd.texts gd.queries (grown_from_test block.grown) y (length v.ops) h.ops y_ops more_y code gd.opens has_y;
             within = omega (arith, le_within, count_t, count_y, count_x);
             locals = omega (arith, le_code, locals_t, le_other, locals_x);
             frames = λ p lt. agrees_y.frames p (omega (arith, lt, count_y, count_x)) ∙ ap (option_map (frame_by code.locals)) (marks_v p lt);
           } in
-          let m = guides (has_before code a t (aims_grown a r v gd.es gd.some gd.ops gd.texts gd.queries (whole block.grown) t (length v.ops) h.ops (el.alike.ops ∙ y_ops) more_t) agrees.has) in
+          let m = guides (has_before code a t (aims_grown a r v gd.es gd.some gd.ops gd.texts gd.queries (grown_from_test block.grown) t (length v.ops) h.ops (el.alike.ops ∙ y_ops) more_t) agrees.has) in
           let sound_u = in_sound schema sf part code s u exits gd m sound in
           let tidy_r = (in_moves schema sf part code s u exits gd m sound).tidy sound.tidy in
           let gv = own sound_u agrees_v in
@@ -153,7 +153,7 @@ module _ (schema : Schema) (sf : schemas.Fits schema) (part : Part) (code : Code
           ∙ ap (option_map (frame_by code.locals)) (block.marks (length s.ops) (omega (arith, up)) (omega (arith, up, le_v)) ∙ ap (λ ls. label_at ls (length s.ops)) (in_labels schema sf part code s u exits gd)) in
           let count_g = count_of u v g in
           let grown_t =
-          grown_on s a t m.grown (aims_grown a r v gd.es gd.some gd.ops gd.texts gd.queries (whole g) t (length v.ops) gy.grown.ops (el.alike.ops ∙ aimed_before a r v gd.es gd.some gd.ops gd.texts gd.queries (whole g) x y el.begun.ops gy.grown)
+          grown_on s a t m.grown (aims_grown a r v gd.es gd.some gd.ops gd.texts gd.queries (grown_from_test g) t (length v.ops) gy.grown.ops (el.alike.ops ∙ aimed_before a r v gd.es gd.some gd.ops gd.texts gd.queries (grown_from_test g) x y el.begun.ops gy.grown)
           (more_after v x y t el.begun.texts el.begun.queries gy.grown el.alike.texts el.alike.queries)) in
           record {
             grown = grown_t;
@@ -207,14 +207,14 @@ module _ (schema : Schema) (sf : schemas.Fits schema) (part : Part) (code : Code
           let le_v = long in
           let le_u = short in
           let up = ahead schema sf part code s u exits gd in
-          let count_x = jump_count a r v gd.es gd.some gd.ops gd.texts gd.queries (whole block.grown) x y t el.begun.ops h el.alike.ops in
+          let count_x = jump_count a r v gd.es gd.some gd.ops gd.texts gd.queries (grown_from_test block.grown) x y t el.begun.ops h el.alike.ops in
           let count_y = count_of x y h in
-          let count_t = end_count a r v gd.es gd.some gd.ops gd.texts gd.queries (whole block.grown) x y t el.begun.ops h el.alike.ops in
+          let count_t = end_count a r v gd.es gd.some gd.ops gd.texts gd.queries (grown_from_test block.grown) x y t el.begun.ops h el.alike.ops in
           let locals_x : x.locals ≡ v.locals = el.begun.locals in
           let locals_t : t.locals ≡ y.locals = el.alike.locals in
-          let has_y = open_has a r v gd.es gd.some gd.ops gd.texts gd.queries (whole block.grown) x y t el.begun.ops h el.alike.ops code (same_more y t el.alike.texts el.alike.queries) agrees.has in
-          let y_ops = open_is a r v gd.es gd.some gd.ops gd.texts gd.queries (whole block.grown) x y t el.begun.ops h el.alike.ops in
-          let t_ops = closed_is a r v gd.es gd.some gd.ops gd.texts gd.queries (whole block.grown) x y t el.begun.ops h el.alike.ops in
+          let has_y = open_has a r v gd.es gd.some gd.ops gd.texts gd.queries (grown_from_test block.grown) x y t el.begun.ops h el.alike.ops code (same_more y t el.alike.texts el.alike.queries) agrees.has in
+          let y_ops = open_is a r v gd.es gd.some gd.ops gd.texts gd.queries (grown_from_test block.grown) x y t el.begun.ops h el.alike.ops in
+          let t_ops = closed_is a r v gd.es gd.some gd.ops gd.texts gd.queries (grown_from_test block.grown) x y t el.begun.ops h el.alike.ops in
           let more_y = more_after v x y y el.begun.texts el.begun.queries h refl refl in
           let more_t = more_after v x y t el.begun.texts el.begun.queries h el.alike.texts el.alike.queries in
           let le_within = agrees.within in
@@ -230,12 +230,12 @@ module _ (schema : Schema) (sf : schemas.Fits schema) (part : Part) (code : Code
           let marks_v : (p : ℕ) → p < length x.ops → label_at (labels_of y) p ≡ label_at (labels_of v) p =
           λ p lt. other.marks p (omega (arith, lt)) (omega (arith, lt, count_y)) ∙ marks_before v x (length x.ops) p x.scope.kinds el.labels el.last lt in
           let agrees_v : AgreesHere v = record {
-            has = aims_has a r v gd.es gd.some gd.ops gd.texts gd.queries (whole block.grown) y (length x.ops) (ops.Jump 0 ∷ h.ops) y_ops more_y code gd.opens has_y;
+            has = aims_has a r v gd.es gd.some gd.ops gd.texts gd.queries (grown_from_test block.grown) y (length x.ops) (ops.Jump 0 ∷ h.ops) y_ops more_y code gd.opens has_y;
             within = omega (arith, le_within, count_t, count_y, count_x);
             locals = omega (arith, le_code, locals_t, le_other, locals_x);
             frames = λ p lt. agrees_y.frames p (omega (arith, lt, count_y, count_x)) ∙ ap (option_map (frame_by code.locals)) (marks_v p (omega (arith, lt, count_x)));
           } in
-          let m = guides (has_before code a t (aims_grown a r v gd.es gd.some gd.ops gd.texts gd.queries (whole block.grown) t (length x.ops) (ops.Jump (length y.ops) ∷ h.ops) t_ops more_t) agrees.has) in
+          let m = guides (has_before code a t (aims_grown a r v gd.es gd.some gd.ops gd.texts gd.queries (grown_from_test block.grown) t (length x.ops) (ops.Jump (length y.ops) ∷ h.ops) t_ops more_t) agrees.has) in
           let sound_u = in_sound schema sf part code s u exits gd m sound in
           let tidy_r = (in_moves schema sf part code s u exits gd m sound).tidy sound.tidy in
           let gv = own sound_u agrees_v in
@@ -289,7 +289,7 @@ module _ (schema : Schema) (sf : schemas.Fits schema) (part : Part) (code : Code
           let count_g = count_of u v g in
           let over = ops.Jump (length y.ops) ∷ gy.grown.ops in
           let grown_t =
-          grown_on s a t m.grown (aims_grown a r v gd.es gd.some gd.ops gd.texts gd.queries (whole g) t (length x.ops) over (closed_is a r v gd.es gd.some gd.ops gd.texts gd.queries (whole g) x y t el.begun.ops gy.grown el.alike.ops)
+          grown_on s a t m.grown (aims_grown a r v gd.es gd.some gd.ops gd.texts gd.queries (grown_from_test g) t (length x.ops) over (closed_is a r v gd.es gd.some gd.ops gd.texts gd.queries (grown_from_test g) x y t el.begun.ops gy.grown el.alike.ops)
           (more_after v x y t el.begun.texts el.begun.queries gy.grown el.alike.texts el.alike.queries)) in
           record {
             grown = grown_t;
@@ -332,7 +332,7 @@ module _ (schema : Schema) (sf : schemas.Fits schema) (part : Part) (code : Code
                             let traced_u =
                             led_traced schema sf part code s u exits gd m.grown f led.0 led.2 frames t agrees.has (length x.ops) g.ops over next grown_t.ops_are found.1 none (omega (arith, le_u, le_v, count_x)) below (omega (arith, le_v, below, count_x)) there target traced in
                             let traced_v = traced_walk schema part code frames v agrees_v.has (length u.ops) u.ops g.ops [] (Some led.0) out.0 refl (g.ops_are ∙ ap (λ l. u.ops ++ l) (sym (append-nil g.ops))) out.2 traced_u in
-                            let at = jump_there a r v gd.es gd.some gd.ops gd.texts gd.queries (whole block.grown) x y t el.begun.ops h el.alike.ops code agrees.has in
+                            let at = jump_there a r v gd.es gd.some gd.ops gd.texts gd.queries (grown_from_test block.grown) x y t el.begun.ops h el.alike.ops code agrees.has in
                             let traced_x = (traced_on schema part code frames (length v.ops) (ops.Jump (length y.ops)) out.0 None at jump (subst (λ n. TracedHere frames n out.0) (sym count_g) traced_v)) in
                             (known_so schema sf part code frames s next f (omega (arith, up, le_v, count_x, below)) found.1 found.2 traced, (first.1 frames traced_u, last.1 frames (subst (λ n. TracedHere frames n None) (sym count_x) traced_x))),
                       ),

@@ -12,19 +12,19 @@ use Rattle.bb_code.specs.declared.op.Logic.{Logic}
 use Rattle.bb_code.specs.declared.parts.TheConstants.{STACK_LIMIT}
 use Rattle.bb_schema.specs.Schema.{Schema}
 use Rattle.bb_schema.specs.Fits as schemas
-use Rattle.bb_verify_effect.specs.Code.{Code}
-use Rattle.bb_verify_effect.specs.Flaw.{Flaw}
-use Rattle.bb_verify_effect.specs.Kind.{Kind}
-use Rattle.bb_verify_effect.specs.Kind.TheVariants as kinds
+use Rattle.bb_code.specs.Code.{Code}
+use Rattle.bb_code.specs.declared.flaw.Flaw.{Flaw}
+use Rattle.bb_code.specs.declared.frame.Kind.{Kind}
+use Rattle.bb_code.specs.declared.frame.Kind.TheVariants as kinds
 use Rattle.bb_verify_effect.specs.Kinds.{is_same_plain}
-use Rattle.bb_verify_effect.specs.Op.{Op}
-use Rattle.bb_verify_effect.specs.Op.TheVariants as ops
+use Rattle.bb_code.specs.declared.op.Op.{Op}
+use Rattle.bb_code.specs.declared.op.Op.TheVariants as ops
 use Rattle.bb_compile_scope.specs.Kinds.{class_of, plain_equality, equality}
-use Rattle.bb_verify.specs.PartType.{Part}
-use Rattle.bb_verify.specs.FrameType.{Frame}
-use Rattle.bb_verify.specs.Frame.{with_stack, pop, pop_two, room, push}
-use Rattle.bb_verify.specs.Due as due
-use Rattle.bb_verify.specs.Effect.{effect, on, turn, combine, eq_label, eq_unit}
+use Rattle.bb_verify_effect.specs.declared.part.Part.{Part}
+use Rattle.bb_verify_effect.specs.declared.frame.Frame.{Frame}
+use Rattle.bb_verify_effect.specs.Frame.{with_stack, pop, pop_two, room, push}
+use Rattle.bb_verify_effect.specs.Due as due
+use Rattle.bb_verify_effect.specs.Effect.{effect, on, turn, combine, eq_label, eq_unit}
 use Rattle.bb_verify.specs.nesting.Jumps.{target_of}
 use Rattle.bb_verify.specs.Tables.{in_tables}
 use Rattle.bb_theorem_accepted.proofs.buffers.StraightLemmas.{Gives}
@@ -86,9 +86,9 @@ module _ (s : Schema) (sf : schemas.Fits s) (part : Part) (code : Code) where
   unfolding effect in_tables
   compares c t u one two = combines (ops.Compare c) kinds.Int kinds.Bool t u refl refl (λ f. refl) one two refl
 
-  pub both : (l : Logic) (t u : Kind) → is_same_plain t kinds.Bool ≡ true → is_same_plain u kinds.Bool ≡ true → TwoGives (ops.Combine l) t u kinds.Bool
+  pub combine_gives : (l : Logic) (t u : Kind) → is_same_plain t kinds.Bool ≡ true → is_same_plain u kinds.Bool ≡ true → TwoGives (ops.Combine l) t u kinds.Bool
   unfolding effect in_tables
-  both l t u one two = combines (ops.Combine l) kinds.Bool kinds.Bool t u refl refl (λ f. refl) one two refl
+  combine_gives l t u one two = combines (ops.Combine l) kinds.Bool kinds.Bool t u refl refl (λ f. refl) one two refl
 
   pub intervals : (t u : Kind) → is_same_plain t kinds.Int ≡ true → is_same_plain u kinds.Int ≡ true → TwoGives ops.MakeInterval t u kinds.Interval
   unfolding effect in_tables

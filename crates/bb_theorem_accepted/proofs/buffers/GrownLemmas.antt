@@ -1,7 +1,7 @@
 -- Whatever is laid out, a buffer only gets more ops, texts and queries: what is shared.
 use Rattle.std.proofs.Common.{◌≡◌, ℕ, ◌≤◌, [], ◌∷◌, ◌++◌, refl, sym, ap, ◌∙◌, arith}
 use Rattle.std.proofs.lemmas.List.{append-nil}
-use Rattle.bb_verify_effect.specs.Op.{Op}
+use Rattle.bb_code.specs.declared.op.Op.{Op}
 use Rattle.bb_compile_scope.specs.declared.fault.TextFlaw.{TextFlaw}
 use Rattle.bb_compile_scope.specs.declared.scope.Scope.{Scope}
 use Rattle.bb_compile_buffer.specs.declared.buffer.Buffer.{Buffer}

@@ -3,15 +3,15 @@ use Rattle.std.proofs.Common.{◌≡◌, ℕ, ◌+◌, ◌-◌, ◌<◌, ◌≤�
 use Rattle.bb_code.specs.declared.parts.TheConstants.{STACK_LIMIT}
 use Rattle.bb_schema.specs.Schema.{Schema}
 use Rattle.bb_schema.specs.Fits as schemas
-use Rattle.bb_verify_effect.specs.Code.{Code}
-use Rattle.bb_verify_effect.specs.Kind.{Kind}
-use Rattle.bb_verify_effect.specs.Kind.TheVariants as kinds
-use Rattle.bb_verify_effect.specs.Op.{Op}
+use Rattle.bb_code.specs.Code.{Code}
+use Rattle.bb_code.specs.declared.frame.Kind.{Kind}
+use Rattle.bb_code.specs.declared.frame.Kind.TheVariants as kinds
+use Rattle.bb_code.specs.declared.op.Op.{Op}
 use Rattle.bb_compile_buffer.specs.declared.buffer.Buffer.{Buffer}
 use Rattle.bb_compile_buffer.specs.Operations.{Made}
-use Rattle.bb_verify.specs.PartType.{Part}
-use Rattle.bb_verify.specs.FrameType.{Frame}
-use Rattle.bb_verify.specs.Frame.{with_stack}
+use Rattle.bb_verify_effect.specs.declared.part.Part.{Part}
+use Rattle.bb_verify_effect.specs.declared.frame.Frame.{Frame}
+use Rattle.bb_verify_effect.specs.Frame.{with_stack}
 use Rattle.bb_theorem_accepted.proofs.buffers.StraightLemmas.{Gives, Leads, leads_on}
 use Rattle.bb_theorem_accepted.proofs.kinds.UnderLemmas.{IsUnder, AreKnown}
 use Rattle.bb_theorem_accepted.proofs.kinds.KnowLemmas.{HasSequences}

@@ -2,10 +2,10 @@
 use Rattle.std.proofs.Common.{◌≡◌, ◌≤◌, ℕ, zero, suc, arith, Bool, true, false, cond, Option, Some, None, Result, Ok, refl, subst, sym, ap, ◌∙◌}
 use Rattle.std.specs.Prelude.{nat_eq}
 use Rattle.bb_basis.proofs.ResultLemmas.{bind_ok, same_ok}
-use Rattle.bb_verify_effect.specs.Kind.{Kind}
+use Rattle.bb_code.specs.declared.frame.Kind.{Kind}
 use Rattle.bb_verify_effect.specs.Kinds.{is_same_plain}
-use Rattle.bb_verify_effect.specs.Op.{Op}
-use Rattle.bb_verify_effect.specs.Op.TheVariants as ops
+use Rattle.bb_code.specs.declared.op.Op.{Op}
+use Rattle.bb_code.specs.declared.op.Op.TheVariants as ops
 use Rattle.bb_lang.specs.Variable.{Variable}
 use Rattle.bb_compile_scope.specs.declared.fault.TextFlaw.TheVariants.{Unknown, Kind as WrongKind, DeadName}
 use Rattle.bb_compile_scope.specs.Kinds.{class_of, is_live}

@@ -7,16 +7,16 @@ use Rattle.std.proofs.lemmas.List.{append-nil}
 use Rattle.bb_basis.specs.Results.{◌>>=◌}
 use Rattle.bb_code.specs.declared.op.Bound.TheVariants as bounds
 use Rattle.bb_code.specs.declared.parts.TheConstants.{OP_LIMIT, TEXT_COUNT_LIMIT, TEXT_BYTES_LIMIT, QUERY_LIMIT}
-use Rattle.bb_code.specs.PatternLimits.{OPERAND_LIMIT}
-use Rattle.bb_code.specs.Trees.{Tree, Trees}
-use Rattle.bb_code.specs.Trees as nodes
-use Rattle.bb_verify_effect.specs.Kind.{Kind}
-use Rattle.bb_verify_effect.specs.Kind.TheVariants as kinds
+use Rattle.bb_pattern.specs.declared.fits.TheConstants.{OPERAND_LIMIT}
+use Rattle.bb_pattern.specs.Trees.{Tree, Trees}
+use Rattle.bb_pattern.specs.Trees as nodes
+use Rattle.bb_code.specs.declared.frame.Kind.{Kind}
+use Rattle.bb_code.specs.declared.frame.Kind.TheVariants as kinds
 use Rattle.bb_verify_effect.specs.Kinds.{is_same_plain}
-use Rattle.bb_verify_effect.specs.Op.{Op}
-use Rattle.bb_verify_effect.specs.Op.TheVariants as ops
-use Rattle.bb_verify_effect.specs.Query.{Query}
-use Rattle.bb_verify_effect.specs.Schema.{Schema, class_named, space_named, label_set_named, label_named}
+use Rattle.bb_code.specs.declared.op.Op.{Op}
+use Rattle.bb_code.specs.declared.op.Op.TheVariants as ops
+use Rattle.bb_pattern.specs.declared.query.Query.{Query}
+use Rattle.bb_schema.specs.Schema.{Schema, class_named, space_named, label_set_named, label_named}
 use Rattle.bb_schema_classes.specs.declared.kind.Link.{Link}
 use Rattle.bb_lang.specs.Atom.{Atom}
 use Rattle.bb_lang.specs.Atom.TheVariants as atoms
@@ -73,9 +73,9 @@ behind p = p.1
 abbrev pub last : {X : Type 0} → Patterned X → Buffer
 last p = p.2
 
-pub same : (s : Buffer) → Stays s s
+pub stays_same : (s : Buffer) → Stays s s
 unfolding adds_none grown_none
-same s = record { adds = adds_none s; scope = refl; quiet = tt }
+stays_same s = record { adds = adds_none s; scope = refl; quiet = tt }
 
 pub onward : {X : Type 0} (at : X → Buffer) (s t : Buffer) (r : Result X CompileFault) → Stays s t → Keeps at t r → Keeps at s r
 onward at s t (Ok x) g h = same_on s t (at x) g h
@@ -96,21 +96,21 @@ unfolding adds_flaw grown_none
 flawed flaw s = record { adds = adds_flaw flaw s; scope = refl; quiet = tt }
 
 pub unless_flawed : (b : Bool) (flaw : TextFlaw) (s : Buffer) → Stays s (cond b s (noted flaw s))
-unless_flawed true flaw s = same s
+unless_flawed true flaw s = stays_same s
 unless_flawed false flaw s = flawed flaw s
 
 pub if_flawed : (b : Bool) (flaw : TextFlaw) (s : Buffer) → Stays s (cond b (noted flaw s) s)
 if_flawed true flaw s = flawed flaw s
-if_flawed false flaw s = same s
+if_flawed false flaw s = stays_same s
 
 pub due_keeps : (made : Made) (wanted : Kind) (s : Buffer) → Stays s (due made wanted s)
 unfolding due
-due_keeps None wanted s = same s
+due_keeps None wanted s = stays_same s
 due_keeps (Some kind) wanted s = unless_flawed (is_same_plain kind wanted) WrongKind s
 
 pub known_keeps : (o : Option ℕ) (s : Buffer) → Stays s (known o s)
 known_keeps None s = flawed Unknown s
-known_keeps (Some n) s = same s
+known_keeps (Some n) s = stays_same s
 
 pub put_keeps : (op : Op) → is_quiet op ≡ true → (s : Buffer) → Keeps itself s (put op s)
 unfolding put adds_op
@@ -125,7 +125,7 @@ pub put_on : (op : Op) → is_quiet op ≡ true → (s t : Buffer) → Stays s t
 put_on op quiet s t g = onward itself s t (put op t) g (put_keeps op quiet t)
 
 pub made_on : {X : Type 0} (x : X) (op : Op) → is_quiet op ≡ true → (s t : Buffer) → Stays s t → Keeps behind s (put op t >>= λ u. Ok (x, u))
-made_on x op quiet s t g = then itself behind s (put op t) (λ u. Ok (x, u)) (put_on op quiet s t g) (λ u. same u)
+made_on x op quiet s t g = then itself behind s (put op t) (λ u. Ok (x, u)) (put_on op quiet s t g) (λ u. stays_same u)
 
 pushed_keeps : (op : Op) → is_quiet op ≡ true → (gives : Kind) (room : ℕ) (s : Buffer) → Keeps behind s (pushed op gives room s)
 unfolding pushed put_value
@@ -141,7 +141,7 @@ variable_keeps v room s = by_local (local_of s.scope (name_of v))
     by_local None = flawed Unknown s
     by_local (Some local) =
         let was = cond (room == 0) (noted Limit s) s in
-        then itself behind s (put (ops.Load local) was) (λ t. Ok (Some (kind_at t.scope.kinds local), t)) (put_on (ops.Load local) refl s was (if_flawed (room == 0) Limit s)) (λ t. same t)
+        then itself behind s (put (ops.Load local) was) (λ t. Ok (Some (kind_at t.scope.kinds local), t)) (put_on (ops.Load local) refl s was (if_flawed (room == 0) Limit s)) (λ t. stays_same t)
 
 pub unit_keeps : (v : Variable) (room : ℕ) (s : Buffer) → Keeps behind s (unit_code v room s)
 unfolding unit_code
@@ -152,7 +152,7 @@ unit_keeps v room s = then behind behind s (variable_code v room s) (λ p. unit_
     by_class (Some class) live t = unless_flawed live DeadName t
 
     by_made : (made : Made) (t : Buffer) → Keeps behind t (unit_of made t)
-    by_made None t = same t
+    by_made None t = stays_same t
     by_made (Some kind) t = by_class (class_of kind) (is_live kind) t
 
 slot_keeps : (schema : Schema) (v : Variable) (slot : List ℕ) (room : ℕ) (s : Buffer) → Keeps behind s (slot_code schema v slot room s)
@@ -161,10 +161,10 @@ slot_keeps schema v slot room s = then behind behind s (unit_code v room s) (λ 
   where
     by_slot : (r : Result (ℕ × Kind) TextFlaw) (t : Buffer) → Keeps behind t (gotten r t)
     by_slot (Err flaw) t = flawed flaw t
-    by_slot (Ok p) t = made_on (Some p.1) (ops.Get p.0) refl t t (same t)
+    by_slot (Ok p) t = made_on (Some p.1) (ops.Get p.0) refl t t (stays_same t)
 
     by_class : (class : Option ℕ) (t : Buffer) → Keeps behind t (got_from schema slot class t)
-    by_class None t = same t
+    by_class None t = stays_same t
     by_class (Some class) t = by_slot (value_slot schema class slot) t
 
 text_keeps : (text : List ℕ) (room : ℕ) (s : Buffer) → Keeps behind s (text_code text room s)
@@ -180,7 +180,7 @@ text_keeps text room s =
     by_room t false = record { adds = record { grown = record { ops = []; ops_are = sym (append-nil t.ops); texts = text ∷ []; texts_are = refl; queries = []; queries_are = sym (append-nil t.queries) }; labels = refl; last = refl; loops = refl; locals = omega arith; clean = λ c. c }; scope = refl; quiet = tt }
 
     by_place : (t : Buffer) (o : Option ℕ) → Keeps behind t (text_at text o t)
-    by_place t (Some index) = same t
+    by_place t (Some index) = stays_same t
     by_place t None = by_room t (nat_le TEXT_COUNT_LIMIT (length t.texts))
 
 label_keeps : (schema : Schema) (set label : List ℕ) (room : ℕ) (s : Buffer) → Keeps behind s (label_code schema set label room s)
@@ -226,14 +226,14 @@ equal_keeps (Some l) (Some r) s = by_op (equality l r) (equal_quiet l r)
     by_op : (o : Option Op) → ((op : Op) → o ≡ Some op → is_quiet op ≡ true) → Keeps itself s (equality_by o s)
     by_op None quiet = flawed WrongKind s
     by_op (Some op) quiet = put_keeps op (quiet op refl) s
-equal_keeps (Some l) None s = same s
-equal_keeps None r s = same s
+equal_keeps (Some l) None s = stays_same s
+equal_keeps None r s = stays_same s
 
 pub binary_keeps : (operation : Binary) (l r : Made) (s : Buffer) → Keeps behind s (binary_code operation l r s)
 unfolding binary_code
 binary_keeps binaries.Less l r s = two_keep l r kinds.Int _ refl kinds.Bool s
 binary_keeps binaries.AtMost l r s = two_keep l r kinds.Int _ refl kinds.Bool s
-binary_keeps binaries.Equal l r s = then itself behind s (equality_code l r s) (λ t. Ok (Some kinds.Bool, t)) (equal_keeps l r s) (λ t. same t)
+binary_keeps binaries.Equal l r s = then itself behind s (equality_code l r s) (λ t. Ok (Some kinds.Bool, t)) (equal_keeps l r s) (λ t. stays_same t)
 binary_keeps binaries.Min l r s = two_keep l r kinds.Int _ refl kinds.Int s
 binary_keeps binaries.Max l r s = two_keep l r kinds.Int _ refl kinds.Int s
 binary_keeps binaries.Interval l r s = two_keep l r kinds.Int ops.MakeInterval refl kinds.Interval s
@@ -259,10 +259,10 @@ links_keep schema unit slot room s = then behind behind s (unit_code unit room s
   where
     by_slot : (r : Result (ℕ × Link) TextFlaw) (t : Buffer) → Keeps behind t (linked_by r t)
     by_slot (Err flaw) t = flawed flaw t
-    by_slot (Ok p) t = made_on (Some p.1.to) (ops.Links p.0) refl t t (same t)
+    by_slot (Ok p) t = made_on (Some p.1.to) (ops.Links p.0) refl t t (stays_same t)
 
     by_class : (class : Option ℕ) (t : Buffer) → Keeps behind t (linked_from schema slot class t)
-    by_class None t = same t
+    by_class None t = stays_same t
     by_class (Some class) t = by_slot (link_slot schema class slot) t
 
 pub query_keeps : (class space : Option ℕ) (asked : Asked) (pattern : Tree) (room : ℕ) (s : Buffer) → Keeps behind s (query_code class space asked pattern room s)
@@ -278,12 +278,12 @@ query_keeps (Some class) (Some space) asked pattern room s =
     by_room : (b : Bool) → Keeps behind s (cond b (Err (At Limit s.start)) (Ok (length s.queries, record s { queries = s.queries ++ q ∷ [] })))
     by_room true = tt
     by_room false = record { adds = record { grown = record { ops = []; ops_are = sym (append-nil s.ops); texts = []; texts_are = sym (append-nil s.texts); queries = q ∷ []; queries_are = refl }; labels = refl; last = refl; loops = refl; locals = omega arith; clean = λ c. c }; scope = refl; quiet = tt }
-query_keeps (Some class) None asked pattern room s = same s
-query_keeps None space asked pattern room s = same s
+query_keeps (Some class) None asked pattern room s = stays_same s
+query_keeps None space asked pattern room s = stays_same s
 
 pub test_keeps : (schema : Schema) (space : Option ℕ) (dim : List ℕ) (relation : Relation) (operand : Made) (asked : Asked) (s : Buffer) → Stays s (test_code schema space dim relation operand asked s).2
 unfolding test_code
-test_keeps schema None dim relation operand asked s = same s
+test_keeps schema None dim relation operand asked s = stays_same s
 test_keeps schema (Some space) dim relation operand asked s = by_dimension (dimension schema space dim relation)
   where
     by_dimension : (o : Option (ℕ × Kind)) → Stays s (test_at relation o operand asked s).2
@@ -307,10 +307,10 @@ module _ (schema : Schema) where
         (λ p. then behind behind p.1 (expr_code schema (room - 1) r p.1) (λ q. binary_code operation p.0 q.0 q.1) (expr_keeps r (room - 1) p.1) (λ q. binary_keeps operation p.0 q.0 q.1))
     expr_keeps (chain first steps) room s = then behind behind s (expr_code schema room first s) (λ p. steps_code schema room p.0 steps p.1) (expr_keeps first room s) (λ p. steps_keep steps room p.0 p.1)
     expr_keeps (size_of sequence) room s =
-        then behind behind s (sequence_code schema room sequence s) (λ p. put ops.Size p.1 >>= λ u. Ok (Some kinds.Int, u)) (sequence_keeps sequence room s) (λ p. made_on (Some kinds.Int) ops.Size refl p.1 p.1 (same p.1))
+        then behind behind s (sequence_code schema room sequence s) (λ p. put ops.Size p.1 >>= λ u. Ok (Some kinds.Int, u)) (sequence_keeps sequence room s) (λ p. made_on (Some kinds.Int) ops.Size refl p.1 p.1 (stays_same p.1))
 
     steps_keep : (steps : Steps) (room : ℕ) (left : Made) (s : Buffer) → Keeps behind s (steps_code schema room left steps s)
-    steps_keep no_step room left s = same s
+    steps_keep no_step room left s = stays_same s
     steps_keep (apply operator e steps) room left s =
         then behind behind s (expr_code schema (room - 1) e s) (λ p. operator_code operator left p.0 p.1 >>= λ q. steps_code schema room q.0 steps q.1) (expr_keeps e (room - 1) s)
         (λ p. then behind behind p.1 (operator_code operator left p.0 p.1) (λ q. steps_code schema room q.0 steps q.1) (operator_keeps operator left p.0 p.1) (λ q. steps_keep steps room q.0 q.1))
@@ -332,15 +332,15 @@ module _ (schema : Schema) where
     pattern_keeps (and_of ps) room space asked s =
         let was = node_noted asked s in
         onward last s was (patterns_code schema room space ps (node_counted asked) was >>= λ (q : Patterned Trees). Ok (nodes.and_of q.0, q.1, q.2)) (node_keeps asked s)
-        (then last last was (patterns_code schema room space ps (node_counted asked) was) (λ (q : Patterned Trees). Ok (nodes.and_of q.0, q.1, q.2)) (patterns_keep ps room space (node_counted asked) was) (λ q. same q.2))
+        (then last last was (patterns_code schema room space ps (node_counted asked) was) (λ (q : Patterned Trees). Ok (nodes.and_of q.0, q.1, q.2)) (patterns_keep ps room space (node_counted asked) was) (λ q. stays_same q.2))
     pattern_keeps (or_of ps) room space asked s =
         let was = node_noted asked s in
         onward last s was (patterns_code schema room space ps (node_counted asked) was >>= λ (q : Patterned Trees). Ok (nodes.or_of q.0, q.1, q.2)) (node_keeps asked s)
-        (then last last was (patterns_code schema room space ps (node_counted asked) was) (λ (q : Patterned Trees). Ok (nodes.or_of q.0, q.1, q.2)) (patterns_keep ps room space (node_counted asked) was) (λ q. same q.2))
+        (then last last was (patterns_code schema room space ps (node_counted asked) was) (λ (q : Patterned Trees). Ok (nodes.or_of q.0, q.1, q.2)) (patterns_keep ps room space (node_counted asked) was) (λ q. stays_same q.2))
     pattern_keeps (not_of p) room space asked s =
         let was = node_noted asked s in
         onward last s was (pattern_code schema room space p (node_counted asked) was >>= λ (q : Patterned Tree). Ok (nodes.not_of q.0, q.1, q.2)) (node_keeps asked s)
-        (then last last was (pattern_code schema room space p (node_counted asked) was) (λ (q : Patterned Tree). Ok (nodes.not_of q.0, q.1, q.2)) (pattern_keeps p room space (node_counted asked) was) (λ q. same q.2))
+        (then last last was (pattern_code schema room space p (node_counted asked) was) (λ (q : Patterned Tree). Ok (nodes.not_of q.0, q.1, q.2)) (pattern_keeps p room space (node_counted asked) was) (λ q. stays_same q.2))
     pattern_keeps (test dim relation e) room space asked s =
         let was = node_noted asked s in
         onward last s was (expr_code schema (room - length asked.kinds) e was >>= λ p. Ok (test_code schema space dim relation p.0 (node_counted asked) p.1)) (node_keeps asked s)
@@ -348,7 +348,7 @@ module _ (schema : Schema) where
         (λ p. test_keeps schema space dim relation p.0 (node_counted asked) p.1))
 
     patterns_keep : (ps : Patterns) (room : ℕ) (space : Option ℕ) (asked : Asked) (s : Buffer) → Keeps last s (patterns_code schema room space ps asked s)
-    patterns_keep no_pattern room space asked s = same s
+    patterns_keep no_pattern room space asked s = stays_same s
     patterns_keep (more p ps) room space asked s =
         then last last s (pattern_code schema room space p asked s) (λ (q : Patterned Tree). patterns_code schema room space ps q.1 q.2 >>= λ (r : Patterned Trees). Ok (nodes.more q.0 r.0, r.1, r.2)) (pattern_keeps p room space asked s)
-        (λ q. then last last q.2 (patterns_code schema room space ps q.1 q.2) (λ (r : Patterned Trees). Ok (nodes.more q.0 r.0, r.1, r.2)) (patterns_keep ps room space q.1 q.2) (λ r. same r.2))
+        (λ q. then last last q.2 (patterns_code schema room space ps q.1 q.2) (λ (r : Patterned Trees). Ok (nodes.more q.0 r.0, r.1, r.2)) (patterns_keep ps room space q.1 q.2) (λ r. stays_same r.2))

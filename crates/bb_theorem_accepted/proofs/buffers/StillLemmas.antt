@@ -7,12 +7,12 @@ use Rattle.bb_code.specs.declared.op.LinkChange.{LinkChange}
 use Rattle.bb_code.specs.declared.op.LinkChange.TheVariants as changes
 use Rattle.bb_verify_effect.specs.declared.part.Part.{Part}
 use Rattle.bb_verify_effect.specs.Part.{writes, ends_rated, ends_answered}
-use Rattle.bb_verify_effect.specs.Kind.{Kind}
-use Rattle.bb_verify_effect.specs.Kind.TheVariants as kinds
-use Rattle.bb_verify_effect.specs.Op.{Op}
-use Rattle.bb_verify_effect.specs.Op.TheVariants as ops
-use Rattle.bb_verify_effect.specs.Schema.{Schema, space_named, descends}
-use Rattle.bb_verify_effect.specs.Spaces.{allowed}
+use Rattle.bb_code.specs.declared.frame.Kind.{Kind}
+use Rattle.bb_code.specs.declared.frame.Kind.TheVariants as kinds
+use Rattle.bb_code.specs.declared.op.Op.{Op}
+use Rattle.bb_code.specs.declared.op.Op.TheVariants as ops
+use Rattle.bb_schema.specs.Schema.{Schema, space_named, descends}
+use Rattle.bb_schema.specs.Spaces.{allowed}
 use Rattle.bb_schema_classes.specs.declared.kind.Link.{Link}
 use Rattle.bb_lang.specs.Action.{Action}
 use Rattle.bb_lang.specs.Action.TheVariants as actions
@@ -29,7 +29,7 @@ use Rattle.bb_compile_buffer.specs.Atoms.{unit_code}
 use Rattle.bb_compile.specs.Expressions.{expr_code}
 use Rattle.bb_compile.specs.Actions.{effect_noted, end_noted, set_by, set_in, set_code, link_noted, relinked_by, relinked_in, relink_code, space_noted, entered, enter_code, left_space, leave_code, values_code, say_code, end_code, action_code}
 use Rattle.bb_theorem_accepted.proofs.buffers.QuietLemmas.{is_quiet}
-use Rattle.bb_theorem_accepted.proofs.buffers.StayLemmas.{Stays, Keeps, itself, behind, same, onward, then, flawed, unless_flawed, due_keeps, known_keeps, put_keeps, put_on, unit_keeps, expr_keeps}
+use Rattle.bb_theorem_accepted.proofs.buffers.StayLemmas.{Stays, Keeps, itself, behind, stays_same, onward, then, flawed, unless_flawed, due_keeps, known_keeps, put_keeps, put_on, unit_keeps, expr_keeps}
 
 module _ (schema : Schema) where
   set_keeps : (v : Variable) (slot : List ℕ) (e : ExprTree) (s : Buffer) → Keeps itself s (set_code schema v slot e s)
@@ -43,7 +43,7 @@ module _ (schema : Schema) where
       by_slot (Ok p) made t = put_on (ops.Set p.0) refl t (due made p.1 t) (due_keeps made p.1 t)
 
       by_class : (class : Option ℕ) (made : Made) (t : Buffer) → Keeps itself t (set_in schema class slot made t)
-      by_class None made t = same t
+      by_class None made t = stays_same t
       by_class (Some class) made t = by_slot (value_slot schema class slot) made t
 
   relink_keeps : (change : LinkChange) (v : Variable) (slot : List ℕ) (other : Variable) (s : Buffer) → Keeps itself s (relink_code schema change v slot other s)
@@ -53,7 +53,7 @@ module _ (schema : Schema) where
       (λ p. then behind itself p.1 (unit_code other (STACK_LIMIT - 1) p.1) (λ q. relinked_in schema change p.0 slot q.0 q.1) (unit_keeps other (STACK_LIMIT - 1) p.1) (λ q. by_class p.0 q.0 q.1))
     where
       link_flawed : (to : ℕ) (of : Option ℕ) (t : Buffer) → Stays t (link_noted schema to of t)
-      link_flawed to None t = same t
+      link_flawed to None t = stays_same t
       link_flawed to (Some class) t = unless_flawed (descends schema class to) LinkClass t
 
       by_slot : (r : Result (ℕ × Link) TextFlaw) (of : Option ℕ) (t : Buffer) → Keeps itself t (relinked_by schema change r of t)
@@ -61,7 +61,7 @@ module _ (schema : Schema) where
       by_slot (Ok p) of t = put_on (ops.Relink change p.0) refl t (link_noted schema p.1.to of t) (link_flawed p.1.to of t)
 
       by_class : (class of : Option ℕ) (t : Buffer) → Keeps itself t (relinked_in schema change class slot of t)
-      by_class None of t = same t
+      by_class None of t = stays_same t
       by_class (Some class) of t = by_slot (link_slot schema class slot) of t
 
   enter_keeps : (v : Variable) (space : List ℕ) (s : Buffer) → Keeps itself s (enter_code schema v space s)
@@ -86,7 +86,7 @@ module _ (schema : Schema) where
 
   values_keep : (es : List ExprTree) (room : ℕ) (s : Buffer) → Keeps itself s (values_code schema room es s)
   unfolding values_code
-  values_keep [] room s = same s
+  values_keep [] room s = stays_same s
   values_keep (e ∷ es) room s = then behind itself s (expr_code schema room e s) (λ p. values_code schema (room - 1) es p.1) (expr_keeps schema e room s) (λ p. values_keep es (room - 1) p.1)
 
   say_keeps : (es : List ExprTree) (s : Buffer) → Keeps itself s (say_code schema es s)

@@ -1,18 +1,18 @@
 -- Ops whose effects succeed, one after another, on the frames that they lead to.
 use Rattle.std.proofs.Common.{◌≡◌, ◌⊎◌, inr, ℕ, zero, suc, ◌+◌, ◌<◌, List, [], ◌∷◌, ◌++◌, Some, None, Result, Ok, refl, subst, sym, arith}
 use Rattle.std.specs.List.{range_with_len}
-use Rattle.bb_verify.specs.PartType.{Part}
-use Rattle.bb_verify.specs.FrameType.{Frame}
-use Rattle.bb_verify.specs.Each.{each}
-use Rattle.bb_verify.specs.Edges.{Edges}
-use Rattle.bb_verify.specs.Effect.{effect}
+use Rattle.bb_verify_effect.specs.declared.part.Part.{Part}
+use Rattle.bb_verify_effect.specs.declared.frame.Frame.{Frame}
+use Rattle.bb_code.specs.Each.{each}
+use Rattle.bb_verify_effect.specs.Edges.{Edges}
+use Rattle.bb_verify_effect.specs.Effect.{effect}
 use Rattle.bb_verify.specs.nesting.Jumps.{target_of}
 use Rattle.bb_verify.specs.Tables.{in_tables}
 use Rattle.bb_code.specs.declared.version.Version.{Version}
-use Rattle.bb_verify_effect.specs.Code.{Code}
-use Rattle.bb_verify_effect.specs.Op.{Op}
-use Rattle.bb_verify_effect.specs.Query.{Query}
-use Rattle.bb_verify_effect.specs.Schema.{Schema}
+use Rattle.bb_code.specs.Code.{Code}
+use Rattle.bb_code.specs.declared.op.Op.{Op}
+use Rattle.bb_pattern.specs.declared.query.Query.{Query}
+use Rattle.bb_schema.specs.Schema.{Schema}
 
 -- the next op alone follows, on this frame
 abbrev pub goes_on : Frame → Edges

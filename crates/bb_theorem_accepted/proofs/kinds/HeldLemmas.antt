@@ -18,14 +18,14 @@ use Rattle.bb_schema.specs.declared.slot.Slot.{Slot}
 use Rattle.bb_schema.specs.Schema.{Schema, slot_named, slots_of, kind_of_slot, owner_of, descends}
 use Rattle.bb_schema.specs.Slots.{has_name}
 use Rattle.bb_schema.specs.Fits as schemas
-use Rattle.bb_verify_effect.specs.Flaw.{Flaw as CodeFlaw}
-use Rattle.bb_verify_effect.specs.Flaw.TheVariants as flaws
-use Rattle.bb_verify_effect.specs.Kind.{Kind}
-use Rattle.bb_verify_effect.specs.Kind.TheVariants as kinds
+use Rattle.bb_code.specs.declared.flaw.Flaw.{Flaw as CodeFlaw}
+use Rattle.bb_code.specs.declared.flaw.Flaw.TheVariants as flaws
+use Rattle.bb_code.specs.declared.frame.Kind.{Kind}
+use Rattle.bb_code.specs.declared.frame.Kind.TheVariants as kinds
 use Rattle.bb_compile_scope.specs.declared.fault.TextFlaw.{TextFlaw}
 use Rattle.bb_compile_scope.specs.declared.fault.TextFlaw.TheVariants.{Unknown, Kind as WrongKind}
 use Rattle.bb_compile_scope.specs.Slots.{with_kind, slot_of, value_in, link_in, partner_in, value_slot, link_slot, partner_slot}
-use Rattle.bb_verify.specs.Due as due
+use Rattle.bb_verify_effect.specs.Due as due
 use Rattle.bb_theorem_accepted.proofs.kinds.UnderLemmas.{IsUnder, descends_on}
 
 module _ (p : ℕ → Bool) where

@@ -6,16 +6,16 @@ use Rattle.std.proofs.lemmas.Bool.{le-ltb, lt-leb, eqb-true, eq-eqb}
 use Rattle.std.proofs.lemmas.List.{length-set, length-replicate}
 use Rattle.bb_basis.specs.Results.{◌>>=◌}
 use Rattle.bb_schema.specs.Schema.{Schema}
-use Rattle.bb_verify_effect.specs.Code.{Code}
-use Rattle.bb_verify_effect.specs.Flaw.{Flaw as CodeFlaw}
-use Rattle.bb_verify_effect.specs.Kind.{Kind}
+use Rattle.bb_code.specs.Code.{Code}
+use Rattle.bb_code.specs.declared.flaw.Flaw.{Flaw as CodeFlaw}
+use Rattle.bb_code.specs.declared.frame.Kind.{Kind}
 use Rattle.bb_compile_scope.specs.LocalKinds.{kind_at}
 use Rattle.bb_compile_buffer.specs.declared.buffer.Buffer.{Buffer}
 use Rattle.bb_compile_buffer.specs.declared.label.Label.{Label}
 use Rattle.bb_compile_buffer.specs.Buffers.{kept}
 use Rattle.bb_compile_buffer.specs.Finish.{frame_of, frames_of}
-use Rattle.bb_verify.specs.Each.{each}
-use Rattle.bb_verify.specs.FrameType.{Frame}
+use Rattle.bb_code.specs.Each.{each}
+use Rattle.bb_verify_effect.specs.declared.frame.Frame.{Frame}
 use Rattle.bb_verify.specs.Places.{with_frames, declared_frames, declared_at}
 use Rattle.bb_verify.specs.Tables.{known_kind, known_frame, places_rise}
 

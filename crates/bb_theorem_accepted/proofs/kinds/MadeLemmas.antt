@@ -2,10 +2,10 @@
 use Rattle.std.proofs.Common.{ℕ, ◌-◌, Some, Result, Ok, Err}
 use Rattle.bb_basis.specs.Results.{◌>>=◌}
 use Rattle.bb_schema.specs.Schema.{Schema}
-use Rattle.bb_verify_effect.specs.Kind.{Kind}
-use Rattle.bb_verify_effect.specs.Kind.TheVariants as kinds
-use Rattle.bb_verify_effect.specs.Op.{Op}
-use Rattle.bb_verify_effect.specs.Op.TheVariants as ops
+use Rattle.bb_code.specs.declared.frame.Kind.{Kind}
+use Rattle.bb_code.specs.declared.frame.Kind.TheVariants as kinds
+use Rattle.bb_code.specs.declared.op.Op.{Op}
+use Rattle.bb_code.specs.declared.op.Op.TheVariants as ops
 use Rattle.bb_lang.specs.Binary.{Binary}
 use Rattle.bb_lang.specs.Binary.TheVariants as binaries
 use Rattle.bb_lang.specs.Operator.{Operator}

@@ -8,8 +8,8 @@ use Rattle.bb_basis.proofs.PositionLemmas.{position_within}
 use Rattle.bb_schema.specs.Schema.{Schema, descends}
 use Rattle.bb_schema.specs.Ownership.{strikes}
 use Rattle.bb_schema.specs.Fits as schemas
-use Rattle.bb_verify_effect.specs.Kind.{Kind}
-use Rattle.bb_verify_effect.specs.Kind.TheVariants as kinds
+use Rattle.bb_code.specs.declared.frame.Kind.{Kind}
+use Rattle.bb_code.specs.declared.frame.Kind.TheVariants as kinds
 use Rattle.bb_verify_effect.specs.Kinds.{is_same_plain, struck}
 use Rattle.bb_compile_scope.specs.LocalKinds.{is_free, kind_at}
 use Rattle.bb_compile_scope.specs.declared.scope.NamedLocal.{NamedLocal}
@@ -195,17 +195,17 @@ module _ (s : Schema) (sf : schemas.Fits s) where
 
   module _ (t u : Buffer) (name : List ℕ) (local : ℕ) (kind : Kind) (free : position is_free t.scope.kinds ≡ Some local) (own : Tidy t → IsGood s sf kind)
       (names : u.scope.names ≡ t.scope.names ++ record { name = name; local = local } ∷ []) (kinds_are : u.scope.kinds ≡ set (set t.scope.kinds local kind) local kind) (locals : u.locals ≡ max t.locals (local + 1)) where
-    within : local < length t.scope.kinds
-    within = position_within is_free t.scope.kinds local free
+    local_within : local < length t.scope.kinds
+    local_within = position_within is_free t.scope.kinds local free
 
-    here : kind_at u.scope.kinds local ≡ kind
-    here = ap (λ ks. kind_at ks local) kinds_are ∙ at_same (set t.scope.kinds local kind) local kind (let lt = within in let count : length (set t.scope.kinds local kind) ≡ length t.scope.kinds = length-set t.scope.kinds local kind in omega (arith, lt, count))
+    kind_of_local : kind_at u.scope.kinds local ≡ kind
+    kind_of_local = ap (λ ks. kind_at ks local) kinds_are ∙ at_same (set t.scope.kinds local kind) local kind (let lt = local_within in let count : length (set t.scope.kinds local kind) ≡ length t.scope.kinds = length-set t.scope.kinds local kind in omega (arith, lt, count))
 
-    there : (i : ℕ) → (i ≡ local → ⊥) → kind_at u.scope.kinds i ≡ kind_at t.scope.kinds i
-    there i apart = ap (λ ks. kind_at ks i) kinds_are ∙ (at_other (set t.scope.kinds local kind) local i kind apart ∙ at_other t.scope.kinds local i kind apart)
+    kind_of_other : (i : ℕ) → (i ≡ local → ⊥) → kind_at u.scope.kinds i ≡ kind_at t.scope.kinds i
+    kind_of_other i apart = ap (λ ks. kind_at ks i) kinds_are ∙ (at_other (set t.scope.kinds local kind) local i kind apart ∙ at_other t.scope.kinds local i kind apart)
 
     agrees : Agree t.scope.kinds u.scope.kinds
-    agrees i taken = ap aged (sym (there i (λ e. absurd (let no : true ≡ false = sym (free_first t.scope.kinds local free) ∙ (ap (λ j. is_free (kind_at t.scope.kinds j)) (sym e) ∙ taken) in cc))))
+    agrees i taken = ap aged (sym (kind_of_other i (λ e. absurd (let no : true ≡ false = sym (free_first t.scope.kinds local free) ∙ (ap (λ j. is_free (kind_at t.scope.kinds j)) (sym e) ∙ taken) in cc))))
 
     pub declared_moves : Moves t u
     declared_moves = record {
@@ -213,21 +213,21 @@ module _ (s : Schema) (sf : schemas.Fits s) where
       names = names;
       agree = λ tidy. agrees;
       tidy = λ tidy. record {
-        good = λ i taken. by_local i (one_or_other i local) (λ e. subst (IsFit s sf) (sym (ap (kind_at u.scope.kinds) e ∙ here)) (good_fits s sf kind (own tidy))) (λ apart. subst (IsFit s sf) (sym (there i apart)) (tidy.good i (ap is_free (sym (there i apart)) ∙ taken)));
+        good = λ i taken. by_local i (one_or_other i local) (λ e. subst (IsFit s sf) (sym (ap (kind_at u.scope.kinds) e ∙ kind_of_local)) (good_fits s sf kind (own tidy))) (λ apart. subst (IsFit s sf) (sym (kind_of_other i apart)) (tidy.good i (ap is_free (sym (kind_of_other i apart)) ∙ taken)));
         named = λ i taken value.
             subst (HasLocal s sf i) (sym names)
             (by_local i (one_or_other i local) (λ e. subst (λ j. HasLocal s sf j (t.scope.names ++ record { name = name; local = local } ∷ [])) (sym e) (has_last t.scope.names (record { name = name; local = local })))
-            (λ apart. has_before i t.scope.names (record { name = name; local = local } ∷ []) (tidy.named i (ap is_free (sym (there i apart)) ∙ taken) (ap is_sequence (sym (there i apart)) ∙ value))));
+            (λ apart. has_before i t.scope.names (record { name = name; local = local } ∷ []) (tidy.named i (ap is_free (sym (kind_of_other i apart)) ∙ taken) (ap is_sequence (sym (kind_of_other i apart)) ∙ value))));
         taken =
             subst (AllTaken s sf u.scope.kinds) (sym names)
-            (taken_more u.scope.kinds t.scope.names (record { name = name; local = local }) (taken_agree t.scope.kinds u.scope.kinds t.scope.names agrees tidy.taken) (ap is_free here ∙ good_taken kind (own tidy)) (ap is_sequence here ∙ under_value s sf kind kind (own tidy).1));
+            (taken_more u.scope.kinds t.scope.names (record { name = name; local = local }) (taken_agree t.scope.kinds u.scope.kinds t.scope.names agrees tidy.taken) (ap is_free kind_of_local ∙ good_taken kind (own tidy)) (ap is_sequence kind_of_local ∙ under_value s sf kind kind (own tidy).1));
         sole =
             subst (Sole u.scope.kinds) (sym names)
-            (sole_more t.scope.kinds u.scope.kinds t.scope.names (record { name = name; local = local }) agrees (free_first t.scope.kinds local free) (ap is_free here ∙ good_taken kind (own tidy)) tidy.sole);
+            (sole_more t.scope.kinds u.scope.kinds t.scope.names (record { name = name; local = local }) agrees (free_first t.scope.kinds local free) (ap is_free kind_of_local ∙ good_taken kind (own tidy)) tidy.sole);
         low = λ i taken.
             subst (λ n. i < n) (sym locals)
             (by_local i (one_or_other i local) (λ e. let high = le-max_right t.locals (local + 1) in omega (arith, e, high))
-            (λ apart. let was = tidy.low i (ap is_free (sym (there i apart)) ∙ taken) in let high = le-max_left t.locals (local + 1) in omega (arith, was, high)));
+            (λ apart. let was = tidy.low i (ap is_free (sym (kind_of_other i apart)) ∙ taken) in let high = le-max_left t.locals (local + 1) in omega (arith, was, high)));
       };
     }
       where

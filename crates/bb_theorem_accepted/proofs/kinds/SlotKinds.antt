@@ -9,8 +9,8 @@ use Rattle.bb_schema_classes.specs.declared.kind.Kind.TheVariants as held
 use Rattle.bb_schema_classes.specs.declared.kind.Link.{Link}
 use Rattle.bb_schema.specs.Schema.{Schema, slot_named, kind_of_slot}
 use Rattle.bb_schema.specs.Fits as schemas
-use Rattle.bb_verify_effect.specs.Kind.{Kind}
-use Rattle.bb_verify_effect.specs.Kind.TheVariants as kinds
+use Rattle.bb_code.specs.declared.frame.Kind.{Kind}
+use Rattle.bb_code.specs.declared.frame.Kind.TheVariants as kinds
 use Rattle.bb_compile_scope.specs.declared.fault.TextFlaw.{TextFlaw}
 use Rattle.bb_compile_scope.specs.declared.fault.TextFlaw.TheVariants.{Unknown, Kind as WrongKind}
 use Rattle.bb_compile_scope.specs.Slots.{with_kind, slot_of, value_in, partner_in, value_slot, link_slot, partner_slot}

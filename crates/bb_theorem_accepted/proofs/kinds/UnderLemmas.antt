@@ -12,10 +12,10 @@ use Rattle.bb_schema.specs.Schema.{Schema, descends}
 use Rattle.bb_schema.specs.Ownership.{strikes}
 use Rattle.bb_schema.specs.Fits as schemas
 use Rattle.bb_schema.proofs.Laws.{goes_up, strikes_up}
-use Rattle.bb_verify_effect.specs.Kind.{Kind}
-use Rattle.bb_verify_effect.specs.Kind.TheVariants.{Any, Int, Text, Bool as Truth, Label, Interval, Ref, Old, Seq}
+use Rattle.bb_code.specs.declared.frame.Kind.{Kind}
+use Rattle.bb_code.specs.declared.frame.Kind.TheVariants.{Any, Int, Text, Bool as Truth, Label, Interval, Ref, Old, Seq}
 use Rattle.bb_verify_effect.specs.Kinds.{is_same_plain, struck}
-use Rattle.bb_verify.specs.Due as due
+use Rattle.bb_verify_effect.specs.Due as due
 use Rattle.bb_compile_scope.specs.Kinds.{class_of, is_live, unit_of, assigned_unit, assigned}
 use Rattle.bb_compile_scope.specs.LocalKinds.{is_free, kind_at}
 use Rattle.bb_compile_scope.specs.declared.scope.NamedLocal.{NamedLocal}

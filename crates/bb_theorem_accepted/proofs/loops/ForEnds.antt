@@ -3,31 +3,28 @@ use Rattle.std.proofs.Common.{◌≡◌, ℕ, ◌+◌, ◌<◌, Bool, true, fals
 use Rattle.std.specs.Prelude.{option_map}
 use Rattle.bb_schema.specs.Schema.{Schema}
 use Rattle.bb_schema.specs.Fits as schemas
-use Rattle.bb_verify_effect.specs.Code.{Code}
+use Rattle.bb_code.specs.Code.{Code}
 use Rattle.bb_lang.specs.Sequence.{Sequence}
 use Rattle.bb_lang.specs.Blocks.{BlockTree}
 use Rattle.bb_compile_scope.specs.LocalKinds.{is_free, kind_at}
 use Rattle.bb_compile_scope.specs.declared.scope.Scope.{Scope}
 use Rattle.bb_compile_buffer.specs.declared.buffer.Buffer.{Buffer}
-use Rattle.bb_compile_buffer.specs.Buffers.{labelled, kept}
+use Rattle.bb_compile_buffer.specs.Buffers.{labelled, kept, leave}
 use Rattle.bb_compile.specs.Statements.{at_back}
-use Rattle.bb_verify.specs.PartType.{Part}
+use Rattle.bb_verify_effect.specs.declared.part.Part.{Part}
 use Rattle.bb_code.specs.declared.parts.TheConstants.{STACK_LIMIT}
 use Rattle.bb_theorem_accepted.proofs.buffers.LayLemmas.{LaysUnits}
 use Rattle.bb_theorem_accepted.proofs.kinds.LabelLemmas.{labels_of, label_at, Rises, HasLast, AllLabels, labelled_rises, labelled_all, rises_weaker, frame_by}
 use Rattle.bb_theorem_accepted.proofs.kinds.ValueLemmas.{IsFit}
-use Rattle.bb_theorem_accepted.proofs.kinds.MoveLemmas.{Sole}
+use Rattle.bb_theorem_accepted.proofs.kinds.MoveLemmas.{Sole, Moves, kept_moves}
 use Rattle.bb_theorem_accepted.proofs.walks.JoinLemmas.{here, AreGood, Sound, Agrees}
 use Rattle.bb_theorem_accepted.proofs.blocks.BlockLemmas.{Lays}
-use Rattle.bb_theorem_accepted.proofs.branches.BranchScopes.{labelled_sound}
+use Rattle.bb_theorem_accepted.proofs.branches.BranchScopes.{labelled_sound, labelled_here}
 use Rattle.bb_theorem_accepted.proofs.blocks.LoopLaid.{ForLaid}
 use Rattle.bb_theorem_accepted.proofs.blocks.ForLays as lays
 use Rattle.bb_theorem_accepted.proofs.sparing.ScopeLemmas.{Levels}
 use Rattle.bb_theorem_accepted.proofs.sparing.ForActs as acts
 use Rattle.bb_compile_scope.specs.Scope.{mark_of}
-use Rattle.bb_compile_buffer.specs.Buffers.{leave}
-use Rattle.bb_theorem_accepted.proofs.kinds.MoveLemmas.{Moves, kept_moves}
-use Rattle.bb_theorem_accepted.proofs.branches.BranchScopes.{labelled_here}
 use Rattle.bb_theorem_accepted.proofs.loops.LoopSounds.{fit_aged}
 use Rattle.bb_theorem_accepted.proofs.sparing.BranchActs.{BlockActs}
 use Rattle.bb_theorem_accepted.proofs.loops.ForSounds as begins

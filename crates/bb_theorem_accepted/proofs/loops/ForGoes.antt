@@ -4,40 +4,37 @@ use Rattle.std.specs.Prelude.{max, option_map}
 use Rattle.std.proofs.lemmas.Bool.{eq-eqb}
 use Rattle.bb_schema.specs.Schema.{Schema}
 use Rattle.bb_schema.specs.Fits as schemas
-use Rattle.bb_verify_effect.specs.Code.{Code}
-use Rattle.bb_verify_effect.specs.Kind.{Kind}
-use Rattle.bb_verify_effect.specs.Kind.TheVariants as kinds
-use Rattle.bb_verify_effect.specs.Op.{Op}
-use Rattle.bb_verify_effect.specs.Op.TheVariants as ops
+use Rattle.bb_code.specs.Code.{Code}
+use Rattle.bb_code.specs.declared.frame.Kind.{Kind}
+use Rattle.bb_code.specs.declared.frame.Kind.TheVariants as kinds
+use Rattle.bb_code.specs.declared.op.Op.{Op}
+use Rattle.bb_code.specs.declared.op.Op.TheVariants as ops
 use Rattle.bb_lang.specs.Sequence.{Sequence}
 use Rattle.bb_lang.specs.Blocks.{BlockTree}
 use Rattle.bb_compile_scope.specs.declared.scope.Scope.{Scope}
 use Rattle.bb_compile_buffer.specs.declared.buffer.Buffer.{Buffer}
-use Rattle.bb_compile_buffer.specs.Buffers.{labelled}
+use Rattle.bb_compile_buffer.specs.Buffers.{labelled, leave}
 use Rattle.bb_compile.specs.Statements.{at_back}
-use Rattle.bb_verify.specs.PartType.{Part}
-use Rattle.bb_theorem_accepted.proofs.buffers.BufferLemmas.{count_of}
+use Rattle.bb_verify_effect.specs.declared.part.Part.{Part}
+use Rattle.bb_theorem_accepted.proofs.buffers.BufferLemmas.{count_of, grown_on}
 use Rattle.bb_code.specs.declared.parts.TheConstants.{STACK_LIMIT}
 use Rattle.bb_theorem_accepted.proofs.buffers.LayLemmas.{LaysUnits}
 use Rattle.bb_theorem_accepted.proofs.kinds.LabelLemmas.{labels_of, label_at, labelled_at, found_past, frame_by}
 use Rattle.bb_theorem_accepted.proofs.kinds.MoveLemmas.{Sole}
-use Rattle.bb_theorem_accepted.proofs.walks.JoinLemmas.{here, Sound, Agrees}
+use Rattle.bb_theorem_accepted.proofs.walks.JoinLemmas.{here, Sound, Agrees, kinds_here, Joins, Arrives, arrive, joins_own, known_there}
 use Rattle.bb_theorem_accepted.proofs.blocks.BlockLemmas.{Lays}
 use Rattle.bb_theorem_accepted.proofs.blocks.LoopLaid.{ForLaid}
 use Rattle.bb_theorem_accepted.proofs.blocks.ForLays as lays
 use Rattle.bb_theorem_accepted.proofs.sparing.ForActs as acts
 use Rattle.bb_compile_scope.specs.Scope.{mark_of}
-use Rattle.bb_compile_buffer.specs.Buffers.{leave}
 use Rattle.bb_theorem_accepted.proofs.sparing.BranchActs.{BlockActs}
 use Rattle.bb_theorem_accepted.proofs.loops.ForSounds as begins
 use Rattle.std.proofs.Math.Nat.{le-max_left}
-use Rattle.bb_verify.specs.FrameType.{Frame}
-use Rattle.bb_verify.specs.Frame.{with_stack, with_local, local_at}
+use Rattle.bb_verify_effect.specs.declared.frame.Frame.{Frame}
+use Rattle.bb_verify_effect.specs.Frame.{with_stack, with_local, local_at}
 use Rattle.bb_verify.specs.Places.{frame_at, on_due, target_due}
 use Rattle.bb_theorem_accepted.proofs.straight.PatternLemmas.{AreSmall}
-use Rattle.bb_theorem_accepted.proofs.buffers.BufferLemmas.{grown_on}
 use Rattle.bb_theorem_accepted.proofs.kinds.KnowLemmas.{Knows, Finds, knows_left, knows_sequences}
-use Rattle.bb_theorem_accepted.proofs.walks.JoinLemmas.{kinds_here, Joins, Arrives, arrive, joins_own, known_there}
 use Rattle.bb_theorem_accepted.proofs.straight.StoreLemmas.{store_gives, all_room}
 use Rattle.bb_theorem_accepted.proofs.walks.WalkLemmas.{Walks, walks_on, leads_then, straight_visit}
 use Rattle.bb_theorem_accepted.proofs.walks.GoesLemmas.{Goes, After}

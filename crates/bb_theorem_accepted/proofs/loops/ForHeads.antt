@@ -3,23 +3,23 @@ use Rattle.std.proofs.Common.{◌≡◌, ◌⊎◌, inl, inr, ℕ, ◌+◌, ◌<
 use Rattle.std.specs.Prelude.{set, max, slice_get, option_map, unwrap_or}
 use Rattle.bb_schema.specs.Schema.{Schema}
 use Rattle.bb_schema.specs.Fits as schemas
-use Rattle.bb_verify_effect.specs.Code.{Code}
-use Rattle.bb_verify_effect.specs.Kind.{Kind}
-use Rattle.bb_verify_effect.specs.Kind.TheVariants as kinds
+use Rattle.bb_code.specs.Code.{Code}
+use Rattle.bb_code.specs.declared.frame.Kind.{Kind}
+use Rattle.bb_code.specs.declared.frame.Kind.TheVariants as kinds
 use Rattle.bb_lang.specs.Sequence.{Sequence}
 use Rattle.bb_lang.specs.Blocks.{BlockTree}
 use Rattle.bb_compile_scope.specs.LocalKinds.{is_free, kind_at, kinds_left}
 use Rattle.bb_compile_scope.specs.declared.scope.Scope.{Scope}
 use Rattle.bb_compile_buffer.specs.declared.buffer.Buffer.{Buffer}
-use Rattle.bb_verify.specs.PartType.{Part}
+use Rattle.bb_verify_effect.specs.declared.part.Part.{Part}
 use Rattle.bb_theorem_accepted.proofs.kinds.UnderLemmas.{descends_same}
 use Rattle.bb_theorem_accepted.proofs.buffers.BufferLemmas.{count_of}
 use Rattle.bb_code.specs.declared.parts.TheConstants.{STACK_LIMIT}
 use Rattle.bb_theorem_accepted.proofs.buffers.LayLemmas.{LaysUnits}
 use Rattle.bb_theorem_accepted.proofs.kinds.LabelLemmas.{labels_of, label_at, found_past, frame_by}
 use Rattle.bb_theorem_accepted.proofs.straight.StoreLemmas.{declare_is}
-use Rattle.bb_theorem_accepted.proofs.kinds.MoveLemmas.{Sole}
-use Rattle.bb_theorem_accepted.proofs.walks.JoinLemmas.{here, Sound, Agrees}
+use Rattle.bb_theorem_accepted.proofs.kinds.MoveLemmas.{Sole, one_or_other}
+use Rattle.bb_theorem_accepted.proofs.walks.JoinLemmas.{here, Sound, Agrees, HasFrame, at_range, declared_good, label_fits}
 use Rattle.bb_theorem_accepted.proofs.blocks.BlockLemmas.{Lays, same_labels}
 use Rattle.bb_theorem_accepted.proofs.blocks.LoopLaid.{ForLaid}
 use Rattle.bb_theorem_accepted.proofs.blocks.ForLays as lays
@@ -33,12 +33,10 @@ use Rattle.std.proofs.lemmas.List.{length-set}
 use Rattle.bb_basis.proofs.PositionLemmas.{position_within}
 use Rattle.bb_compile_scope.specs.Kinds.{is_live}
 use Rattle.bb_compile_scope.proofs.Laws.{at_same, at_other, set_twice}
-use Rattle.bb_verify.specs.FrameType.{Frame}
-use Rattle.bb_verify.specs.Frame.{with_local, local_at}
+use Rattle.bb_verify_effect.specs.declared.frame.Frame.{Frame}
+use Rattle.bb_verify_effect.specs.Frame.{with_local, local_at}
 use Rattle.bb_verify.specs.Places.{fits_declared, on_due, target_due}
 use Rattle.bb_theorem_accepted.proofs.kinds.KnowLemmas.{aged, IsKept, Knows, knows_left}
-use Rattle.bb_theorem_accepted.proofs.kinds.MoveLemmas.{one_or_other}
-use Rattle.bb_theorem_accepted.proofs.walks.JoinLemmas.{HasFrame, at_range, declared_good, label_fits}
 use Rattle.bb_theorem_accepted.proofs.walks.WalkLemmas.{At}
 use Rattle.bb_theorem_accepted.proofs.walks.GoesLemmas.{Goes}
 use Rattle.bb_theorem_accepted.proofs.loops.LoopSounds.{knows_weaker, are_named}

@@ -4,14 +4,14 @@ use Rattle.std.specs.Prelude.{max}
 use Rattle.std.proofs.lemmas.Bool.{lt-ltb}
 use Rattle.bb_schema.specs.Schema.{Schema}
 use Rattle.bb_schema.specs.Fits as schemas
-use Rattle.bb_verify_effect.specs.Code.{Code}
-use Rattle.bb_verify_effect.specs.Kind.TheVariants as kinds
+use Rattle.bb_code.specs.Code.{Code}
+use Rattle.bb_code.specs.declared.frame.Kind.TheVariants as kinds
 use Rattle.bb_lang.specs.Sequence.{Sequence}
 use Rattle.bb_lang.specs.Blocks.{BlockTree}
 use Rattle.bb_compile_scope.specs.declared.scope.Scope.{Scope}
 use Rattle.bb_compile_buffer.specs.declared.buffer.Buffer.{Buffer}
 use Rattle.bb_compile_buffer.specs.Buffers.{labelled, kept}
-use Rattle.bb_verify.specs.PartType.{Part}
+use Rattle.bb_verify_effect.specs.declared.part.Part.{Part}
 use Rattle.bb_theorem_accepted.proofs.kinds.UnderLemmas.{descends_same}
 use Rattle.bb_theorem_accepted.proofs.buffers.BufferLemmas.{count_of}
 use Rattle.bb_code.specs.declared.parts.TheConstants.{STACK_LIMIT}
@@ -43,8 +43,8 @@ module _ (schema : Schema) (sf : schemas.Fits schema) (part : Part) (code : Code
   pub class_is : units.class ≡ f.class
   class_is = (let e = units.found_is in cc)
 
-  there : f.class < length schema.classes
-  there = subst (λ n. n < length schema.classes) class_is units.there
+  class_is_there : f.class < length schema.classes
+  class_is_there = subst (λ n. n < length schema.classes) class_is units.there
 
   pub head_locals : head.locals ≡ f.held.locals
   unfolding labelled
@@ -63,7 +63,7 @@ module _ (schema : Schema) (sf : schemas.Fits schema) (part : Part) (code : Code
   module _ (sound : IsSound s) where
     held_tidy_is : Tidy schema sf f.held
     held_tidy_is =
-        held_tidy schema sf s f.held f.local f.class (acts.free schema part loops name sequence body s t now sole f) there (acts.names_held schema part loops name sequence body s t now sole f) (acts.kinds_held schema part loops name sequence body s t now sole f)
+        held_tidy schema sf s f.held f.local f.class (acts.free schema part loops name sequence body s t now sole f) class_is_there (acts.names_held schema part loops name sequence body s t now sole f) (acts.kinds_held schema part loops name sequence body s t now sole f)
         locals_held (acts.agree_held schema part loops name sequence body s t now sole f) sound.tidy
       where
         locals_held : f.held.locals ≡ max s.locals (f.local + 1)
@@ -96,7 +96,7 @@ module _ (schema : Schema) (sf : schemas.Fits schema) (part : Part) (code : Code
         (declared_moves schema sf u f.inner name d.0 (kinds.Ref f.class) d.1 (λ tidy. ref_good) (ap (λ (x : Buffer). x.scope.names) d.2) (ap (λ (x : Buffer). x.scope.kinds) d.2) (ap (λ (x : Buffer). x.locals) d.2)).tidy (next_tidy u refl refl)
       where
         ref_good : IsGood schema sf (kinds.Ref f.class)
-        ref_good = (rw (lt-ltb f.class (length schema.classes) there) refl, (f.class, refl, descends_same schema sf f.class))
+        ref_good = (rw (lt-ltb f.class (length schema.classes) class_is_there) refl, (f.class, refl, descends_same schema sf f.class))
 
         next_tidy : (u : Buffer) → u.scope ≡ head.scope → u.locals ≡ head.locals → Tidy schema sf u
         next_tidy u scope locals = (moves_same schema sf head u scope locals).tidy head_tidy

@@ -4,7 +4,7 @@ use Rattle.std.specs.Prelude.{filter, nat_le, nat_lt, ◌==◌}
 use Rattle.std.proofs.lemmas.Bool.{lt-ltb, le-ltb, lt-leb, ltb-true, ltb-false}
 use Rattle.bb_basis.specs.Results.{◌>>=◌}
 use Rattle.bb_code.specs.declared.frame.Loop.{Loop}
-use Rattle.bb_verify_effect.specs.Flaw.{Flaw as CodeFlaw}
+use Rattle.bb_code.specs.declared.flaw.Flaw.{Flaw as CodeFlaw}
 use Rattle.bb_verify.specs.nesting.Loops.{holds, never, rising, lowest_outside}
 use Rattle.bb_theorem_accepted.proofs.nests.NestLemmas.{Loops}
 

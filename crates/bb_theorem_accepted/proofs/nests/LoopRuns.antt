@@ -2,10 +2,10 @@
 -- scope keeps.
 use Rattle.std.proofs.Common.{◌≡◌, ℕ, ◌+◌, ◌-◌, ◌≤◌, Bool, false, List, length, Some, ap, ◌∙◌}
 use Rattle.std.specs.Prelude.{slice_get, position}
-use Rattle.bb_verify_effect.specs.Code.{Code}
+use Rattle.bb_code.specs.Code.{Code}
 use Rattle.bb_verify_effect.specs.declared.part.Part.{Part}
-use Rattle.bb_verify_effect.specs.Op.TheVariants as ops
-use Rattle.bb_verify_effect.specs.Schema.{Schema}
+use Rattle.bb_code.specs.declared.op.Op.TheVariants as ops
+use Rattle.bb_schema.specs.Schema.{Schema}
 use Rattle.bb_lang.specs.Sequence.{Sequence}
 use Rattle.bb_lang.specs.Blocks.{BlockTree}
 use Rattle.bb_compile_scope.specs.LocalKinds.{is_free, kind_at}
@@ -82,7 +82,7 @@ module _ (code : Code) (schema : Schema) (part : Part) (loops : ℕ) (name : Lis
         at_head = nests.head_at code schema part loops name sequence body s t now sole f block has own;
         at_back = nests.back_at code schema part loops name sequence body s t now sole f block has own;
         inside = nests.inside code schema part loops name sequence body s t now sole f block has own;
-        scope_before = acts.same schema part loops name sequence body s t now sole f;
+        scope_before = acts.sequence_keeps_scope schema part loops name sequence body s t now sole f;
         free = acts.free schema part loops name sequence body s t now sole f;
         head_names = ap (λ (c : Scope). c.names) scope ∙ (level.names ∙ acts.names_held schema part loops name sequence body s t now sole f);
         head_keeps = λ i taken.

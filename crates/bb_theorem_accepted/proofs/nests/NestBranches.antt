@@ -2,12 +2,12 @@
 use Rattle.std.proofs.Common.{◌≡◌, ◌⊎◌, inl, inr, ℕ, suc, ◌+◌, ◌<◌, ◌≤◌, Bool, true, false, not, List, [], ◌∷◌, ◌++◌, length, Some, None, Ok, refl, subst, sym, ap, ◌∙◌, arith, length-append}
 use Rattle.std.proofs.lemmas.List.{append-nil}
 use Rattle.bb_code.specs.declared.frame.Loop.{Loop}
-use Rattle.bb_verify_effect.specs.Code.{Code}
+use Rattle.bb_code.specs.Code.{Code}
 use Rattle.bb_verify_effect.specs.declared.part.Part.{Part}
-use Rattle.bb_verify_effect.specs.Kind.{Kind}
-use Rattle.bb_verify_effect.specs.Op.{Op}
-use Rattle.bb_verify_effect.specs.Op.TheVariants as ops
-use Rattle.bb_verify_effect.specs.Schema.{Schema}
+use Rattle.bb_code.specs.declared.frame.Kind.{Kind}
+use Rattle.bb_code.specs.declared.op.Op.{Op}
+use Rattle.bb_code.specs.declared.op.Op.TheVariants as ops
+use Rattle.bb_schema.specs.Schema.{Schema}
 use Rattle.bb_lang.specs.Blocks.{BlockTree, OtherwiseTree, absent, otherwise}
 use Rattle.bb_compile_scope.specs.LocalKinds.{is_free, kind_at}
 use Rattle.bb_compile_scope.specs.Scope.{mark_of}
@@ -185,8 +185,8 @@ module _ (code : Code) where
       first_loops : v.loops ≡ s.loops ++ own.loops
       first_loops = own.loops_are ∙ ap (λ l. l ++ own.loops) (br.guard.loops ∙ br.guard.adds.loops)
 
-    whole : (other : OtherwiseTree) (br : Branches schema part loops first other s t now) → Lays br.inner br.blocks.end → Grown br.guard.tested br.blocks.end
-    whole other br block = grown_on br.guard.tested br.inner br.blocks.end br.guard.named block.grown
+    branches_grown : (other : OtherwiseTree) (br : Branches schema part loops first other s t now) → Lays br.inner br.blocks.end → Grown br.guard.tested br.blocks.end
+    branches_grown other br block = grown_on br.guard.tested br.inner br.blocks.end br.guard.named block.grown
 
     pub one_nests : (br : Branches schema part loops first absent s t now) → Tests s br.inner br.exits br.guard → Agree s.scope.kinds br.inner.scope.kinds → Lays br.inner br.blocks.end → (Has code br.blocks.end → Nested loops br.inner br.blocks.end) → Nested loops s t
     one_nests br tests agree block own =
@@ -195,7 +195,7 @@ module _ (code : Code) where
         let a = g.behind in
         let r = g.tested in
         let v = br.blocks.end in
-        let w = whole absent br block in
+        let w = branches_grown absent br block in
         let count : length t.ops ≡ length v.ops = ap length al.alike.ops ∙ behind_count a r v g.es g.some g.ops g.texts g.queries w in
         let all = al.alike.ops ∙ aimed_behind a r v g.es g.some g.ops g.texts g.queries w in
         let more = same_more v t al.alike.texts al.alike.queries in
@@ -252,7 +252,7 @@ module _ (code : Code) where
             let a = g.behind in
             let r = g.tested in
             let v = br.blocks.end in
-            let w = whole (otherwise b) br block in
+            let w = branches_grown (otherwise b) br block in
             let x = el.inner in
             let y = el.end in
             let has_y = has_before code y t (grown_none y t el.alike.ops el.alike.texts el.alike.queries) has in
@@ -275,7 +275,7 @@ module _ (code : Code) where
             let a = g.behind in
             let r = g.tested in
             let v = br.blocks.end in
-            let w = whole (otherwise b) br block in
+            let w = branches_grown (otherwise b) br block in
             let x = el.inner in
             let y = el.end in
             let grown = block_grown schema part b loops false el.ended x y el.block_is in

@@ -6,13 +6,13 @@ use Rattle.std.proofs.lemmas.Bool.{eq-eqb}
 use Rattle.bb_basis.proofs.PositionLemmas.{position_within}
 use Rattle.bb_code.specs.declared.parts.TheConstants.{STACK_LIMIT}
 use Rattle.bb_code.specs.declared.frame.Loop.{Loop}
-use Rattle.bb_verify_effect.specs.Code.{Code}
+use Rattle.bb_code.specs.Code.{Code}
 use Rattle.bb_verify_effect.specs.declared.part.Part.{Part}
-use Rattle.bb_verify_effect.specs.Kind.{Kind}
-use Rattle.bb_verify_effect.specs.Kind.TheVariants as kinds
-use Rattle.bb_verify_effect.specs.Op.{Op}
-use Rattle.bb_verify_effect.specs.Op.TheVariants as ops
-use Rattle.bb_verify_effect.specs.Schema.{Schema}
+use Rattle.bb_code.specs.declared.frame.Kind.{Kind}
+use Rattle.bb_code.specs.declared.frame.Kind.TheVariants as kinds
+use Rattle.bb_code.specs.declared.op.Op.{Op}
+use Rattle.bb_code.specs.declared.op.Op.TheVariants as ops
+use Rattle.bb_schema.specs.Schema.{Schema}
 use Rattle.bb_lang.specs.Blocks.{BlockTree}
 use Rattle.bb_lang.specs.Sequence.{Sequence}
 use Rattle.bb_lang.specs.View.{sequence_of}
@@ -120,8 +120,8 @@ module _ (code : Code) (schema : Schema) (part : Part) (loops : ℕ) (name : Lis
   abbrev held : List Kind
   held = f.held.scope.kinds
 
-  stays : Stays s before
-  stays = keeps_ok behind s (sequence_code schema STACK_LIMIT (sequence_of sequence) s) (Some f.class, before) f.sequence_is.code_is (sequence_keeps schema (sequence_of sequence) STACK_LIMIT s)
+  before_stays : Stays s before
+  before_stays = keeps_ok behind s (sequence_code schema STACK_LIMIT (sequence_of sequence) s) (Some f.class, before) f.sequence_is.code_is (sequence_keeps schema (sequence_of sequence) STACK_LIMIT s)
 
   free : position is_free s.scope.kinds ≡ Some f.local
   free = acts.free schema part loops name sequence body s t now sole f
@@ -175,7 +175,7 @@ module _ (code : Code) (schema : Schema) (part : Part) (loops : ℕ) (name : Lis
       let a = counts.0 in
       subst (λ n. Each code (length s.ops) n (λ p op. MayHere p op × (exit_of op ≡ None))) (sym counts.1)
       (each_on code (λ p op. MayHere p op × (exit_of op ≡ None)) (length s.ops) (length before.ops) (length before.ops + 1)
-      (λ p op low high there. let calm = calm_there ks code s before stays.adds.grown.ops has_before_loop stays.adds.grown.ops_are (are_calm ks stays.adds.grown.ops stays.quiet) p op low high there in (calm_may ks (length t.ops) (whole ∷ own.loops) p op calm, calm_exit ks op calm))
+      (λ p op low high there. let calm = calm_there ks code s before before_stays.adds.grown.ops has_before_loop before_stays.adds.grown.ops_are (are_calm ks before_stays.adds.grown.ops before_stays.quiet) p op low high there in (calm_may ks (length t.ops) (whole ∷ own.loops) p op calm, calm_exit ks op calm))
       (each_one code (λ p op. MayHere p op × (exit_of op ≡ None)) (length before.ops) (ops.Store f.local) sequence_at (calm_may ks (length t.ops) (whole ∷ own.loops) (length before.ops) (ops.Store f.local) (free_calm ks f.local free), refl)))
 
   head_may : MayHere (length f.held.ops) (ops.Next f.local over)

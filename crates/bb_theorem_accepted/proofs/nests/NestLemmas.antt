@@ -6,10 +6,10 @@ use Rattle.std.specs.List.{list_any}
 use Rattle.std.proofs.lemmas.Bool.{ltb-true, ltb-false}
 use Rattle.std.proofs.lemmas.List.Folds.{list_any-append}
 use Rattle.bb_code.specs.declared.frame.Loop.{Loop}
-use Rattle.bb_verify_effect.specs.Code.{Code}
-use Rattle.bb_verify_effect.specs.Op.{Op}
-use Rattle.bb_verify_effect.specs.Op.TheVariants as ops
-use Rattle.bb_verify.specs.Each.{each}
+use Rattle.bb_code.specs.Code.{Code}
+use Rattle.bb_code.specs.declared.op.Op.{Op}
+use Rattle.bb_code.specs.declared.op.Op.TheVariants as ops
+use Rattle.bb_code.specs.Each.{each}
 use Rattle.bb_verify.specs.nesting.Loops.{op_before, is_head, is_end}
 
 -- the place to which an op goes where it fails, or always

@@ -5,11 +5,11 @@ use Rattle.std.specs.List.{range_with_len}
 use Rattle.std.proofs.lemmas.Bool.{lt-ltb, le-ltb, le-leb, ltb-true, leb-true, leb-false, eq-eqb}
 use Rattle.bb_basis.specs.Results.{◌>>=◌}
 use Rattle.bb_code.specs.declared.frame.Loop.{Loop}
-use Rattle.bb_verify_effect.specs.Code.{Code}
-use Rattle.bb_verify_effect.specs.Flaw.{Flaw as CodeFlaw}
-use Rattle.bb_verify_effect.specs.Op.{Op}
-use Rattle.bb_verify_effect.specs.Op.TheVariants as ops
-use Rattle.bb_verify.specs.Each.{each}
+use Rattle.bb_code.specs.Code.{Code}
+use Rattle.bb_code.specs.declared.flaw.Flaw.{Flaw as CodeFlaw}
+use Rattle.bb_code.specs.declared.op.Op.{Op}
+use Rattle.bb_code.specs.declared.op.Op.TheVariants as ops
+use Rattle.bb_code.specs.Each.{each}
 use Rattle.bb_verify.specs.declared.nesting.loops.TheConstants.{NESTING_LIMIT}
 use Rattle.bb_verify.specs.nesting.Loops.{check_order, never, depth, begins, ends, op_before, local_in, local_of, is_same_local, nests, loop_due, head_due, enters_at_head, keeps_local, op_due, place_due, loop_at, loops}
 use Rattle.bb_theorem_accepted.proofs.buffers.StraightLemmas.{each_range}

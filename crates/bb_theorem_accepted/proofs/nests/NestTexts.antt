@@ -1,9 +1,9 @@
 -- The loops of a text are in order, and its ops stand between them as they may.
 use Rattle.std.proofs.Common.{◌≡◌, ℕ, ◌-◌, Bool, true, false, ◌||◌, Ok, subst, arith}
 use Rattle.bb_basis.proofs.ResultLemmas.{bind_ok}
-use Rattle.bb_verify_effect.specs.Code.{Code}
+use Rattle.bb_code.specs.Code.{Code}
 use Rattle.bb_verify_effect.specs.declared.part.Part.{Part}
-use Rattle.bb_verify_effect.specs.Schema.{Schema}
+use Rattle.bb_schema.specs.Schema.{Schema}
 use Rattle.bb_lang.specs.Blocks.{BlockTree, StatementTree, no_statement, before_others, action, if_of, with_of, for_of, absent, otherwise}
 use Rattle.bb_compile_scope.specs.Place.{Place}
 use Rattle.bb_compile_scope.specs.declared.fault.TextFlaw.TheVariants.{NoEnd}

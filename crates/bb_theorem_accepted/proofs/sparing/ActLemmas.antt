@@ -7,10 +7,10 @@ use Rattle.bb_code.specs.declared.parts.TheConstants.{STACK_LIMIT}
 use Rattle.bb_schema.specs.Schema.{Schema, class_named}
 use Rattle.bb_verify_effect.specs.declared.part.Part.{Part}
 use Rattle.bb_verify_effect.specs.Part.{writes}
-use Rattle.bb_verify_effect.specs.Kind.{Kind}
-use Rattle.bb_verify_effect.specs.Kind.TheVariants as kinds
+use Rattle.bb_code.specs.declared.frame.Kind.{Kind}
+use Rattle.bb_code.specs.declared.frame.Kind.TheVariants as kinds
 use Rattle.bb_verify_effect.specs.Kinds.{struck}
-use Rattle.bb_verify_effect.specs.Op.TheVariants as ops
+use Rattle.bb_code.specs.declared.op.Op.TheVariants as ops
 use Rattle.bb_lang.specs.Action.{Action}
 use Rattle.bb_lang.specs.Action.TheVariants as actions
 use Rattle.bb_lang.specs.Trees.{ExprTree}
@@ -176,21 +176,21 @@ module _ (schema : Schema) where
     changed : (P : Scope → Type 0) → P (effect_noted part s).scope → P s.scope
     changed P p = subst P (sym may) p
 
-    kept : (a : Action) → is_still schema a ≡ true → action_code schema part a s ≡ Ok t → t.scope ≡ s.scope
-    kept a still h = (keeps_ok itself s (action_code schema part a s) t h (action_keeps schema part a s still)).scope
+    still_keeps_scope : (a : Action) → is_still schema a ≡ true → action_code schema part a s ≡ Ok t → t.scope ≡ s.scope
+    still_keeps_scope a still h = (keeps_ok itself s (action_code schema part a s) t h (action_keeps schema part a s still)).scope
 
     pub action_acts : (a : Action) → action_code schema part a s ≡ Ok t → (adds (action a) ≤ frees s.scope.kinds) × Acts s.scope t.scope (added_by schema (of s.scope) (action a)) (action_spares schema (of s.scope) a)
     unfolding action_code
     action_acts (actions.Let name value) h = let_acts name value s t sole h clean
     action_acts (actions.Assign name value) h = (omega arith, assign_acts name value s t sole h clean)
-    action_acts (actions.Rate value) h = (omega arith, acts_same s.scope t.scope (action_spares schema (of s.scope) (actions.Rate value)) sole (kept (actions.Rate value) refl h))
-    action_acts actions.Decline h = (omega arith, acts_same s.scope t.scope (action_spares schema (of s.scope) actions.Decline) sole (kept actions.Decline refl h))
-    action_acts (actions.Answer value) h = (omega arith, acts_same s.scope t.scope (action_spares schema (of s.scope) (actions.Answer value)) sole (kept (actions.Answer value) refl h))
+    action_acts (actions.Rate value) h = (omega arith, acts_same s.scope t.scope (action_spares schema (of s.scope) (actions.Rate value)) sole (still_keeps_scope (actions.Rate value) refl h))
+    action_acts actions.Decline h = (omega arith, acts_same s.scope t.scope (action_spares schema (of s.scope) actions.Decline) sole (still_keeps_scope actions.Decline refl h))
+    action_acts (actions.Answer value) h = (omega arith, acts_same s.scope t.scope (action_spares schema (of s.scope) (actions.Answer value)) sole (still_keeps_scope (actions.Answer value) refl h))
     action_acts (actions.New name class) h = changed (λ c. (1 ≤ frees c.kinds) × Acts c t.scope ((name, class_named schema class) ∷ []) All) (new_acts name class (effect_noted part s) t sole_noted h clean)
     action_acts (actions.Delete unit) h = (omega arith, changed (λ c. Acts c t.scope [] (λ j. not (is_struck schema (class_in (of c) (name_of unit)) (class_at (of c) j)))) (delete_acts unit (effect_noted part s) t sole_noted h clean))
-    action_acts (actions.Set unit slot value) h = (omega arith, acts_same s.scope t.scope (action_spares schema (of s.scope) (actions.Set unit slot value)) sole (kept (actions.Set unit slot value) refl h))
-    action_acts (actions.Link unit slot other) h = (omega arith, acts_same s.scope t.scope (action_spares schema (of s.scope) (actions.Link unit slot other)) sole (kept (actions.Link unit slot other) refl h))
-    action_acts (actions.Unlink unit slot other) h = (omega arith, acts_same s.scope t.scope (action_spares schema (of s.scope) (actions.Unlink unit slot other)) sole (kept (actions.Unlink unit slot other) refl h))
-    action_acts (actions.Enter unit space) h = (omega arith, acts_same s.scope t.scope (action_spares schema (of s.scope) (actions.Enter unit space)) sole (kept (actions.Enter unit space) refl h))
-    action_acts (actions.Leave unit space) h = (omega arith, acts_same s.scope t.scope (action_spares schema (of s.scope) (actions.Leave unit space)) sole (kept (actions.Leave unit space) refl h))
-    action_acts (actions.Say values) h = (omega arith, acts_same s.scope t.scope (action_spares schema (of s.scope) (actions.Say values)) sole (kept (actions.Say values) refl h))
+    action_acts (actions.Set unit slot value) h = (omega arith, acts_same s.scope t.scope (action_spares schema (of s.scope) (actions.Set unit slot value)) sole (still_keeps_scope (actions.Set unit slot value) refl h))
+    action_acts (actions.Link unit slot other) h = (omega arith, acts_same s.scope t.scope (action_spares schema (of s.scope) (actions.Link unit slot other)) sole (still_keeps_scope (actions.Link unit slot other) refl h))
+    action_acts (actions.Unlink unit slot other) h = (omega arith, acts_same s.scope t.scope (action_spares schema (of s.scope) (actions.Unlink unit slot other)) sole (still_keeps_scope (actions.Unlink unit slot other) refl h))
+    action_acts (actions.Enter unit space) h = (omega arith, acts_same s.scope t.scope (action_spares schema (of s.scope) (actions.Enter unit space)) sole (still_keeps_scope (actions.Enter unit space) refl h))
+    action_acts (actions.Leave unit space) h = (omega arith, acts_same s.scope t.scope (action_spares schema (of s.scope) (actions.Leave unit space)) sole (still_keeps_scope (actions.Leave unit space) refl h))
+    action_acts (actions.Say values) h = (omega arith, acts_same s.scope t.scope (action_spares schema (of s.scope) (actions.Say values)) sole (still_keeps_scope (actions.Say values) refl h))

@@ -3,7 +3,7 @@ use Rattle.std.proofs.Common.{◌≡◌, ◌⊎◌, inl, inr, ℕ, Bool, true, f
 use Rattle.bb_basis.proofs.BoolLemmas.{and_first}
 use Rattle.bb_schema.specs.Schema.{Schema}
 use Rattle.bb_verify_effect.specs.declared.part.Part.{Part}
-use Rattle.bb_verify_effect.specs.Kind.{Kind}
+use Rattle.bb_code.specs.declared.frame.Kind.{Kind}
 use Rattle.bb_lang.specs.Blocks.{BlockTree, OtherwiseTree, absent, otherwise}
 use Rattle.bb_compile_scope.specs.Kinds.{is_live}
 use Rattle.bb_compile_scope.specs.LocalKinds.{kind_at, kinds_met}

@@ -7,13 +7,13 @@ use Rattle.bb_basis.specs.Results.{◌>>=◌}
 use Rattle.bb_basis.proofs.ResultLemmas.{bind_ok}
 use Rattle.bb_basis.proofs.PositionLemmas.{position_within}
 use Rattle.bb_code.specs.declared.parts.TheConstants.{STACK_LIMIT}
-use Rattle.bb_code.specs.Trees.{Tree}
+use Rattle.bb_pattern.specs.Trees.{Tree}
 use Rattle.bb_schema.specs.Schema.{Schema, class_named, space_named}
 use Rattle.bb_schema_classes.specs.declared.kind.Link.{Link}
 use Rattle.bb_verify_effect.specs.declared.part.Part.{Part}
-use Rattle.bb_verify_effect.specs.Kind.{Kind}
-use Rattle.bb_verify_effect.specs.Kind.TheVariants.{Ref, Seq}
-use Rattle.bb_verify_effect.specs.Op.TheVariants as ops
+use Rattle.bb_code.specs.declared.frame.Kind.{Kind}
+use Rattle.bb_code.specs.declared.frame.Kind.TheVariants.{Ref, Seq}
+use Rattle.bb_code.specs.declared.op.Op.TheVariants as ops
 use Rattle.bb_lang.specs.Sequence.{Sequence}
 use Rattle.bb_lang.specs.Sequence.TheVariants.{Find, Links}
 use Rattle.bb_lang.specs.Variable.{Variable}
@@ -128,20 +128,20 @@ module _ (schema : Schema) (part : Part) (loops : ℕ) (name : List ℕ) (sequen
   hd = f.head_is
 
   -- after the sequence
-  pub same : q.behind.scope ≡ s.scope
-  same = (keeps_ok behind s (sequence_code schema STACK_LIMIT (sequence_of sequence) s) (Some f.class, q.behind) q.code_is (sequence_keeps schema (sequence_of sequence) STACK_LIMIT s)).scope
+  pub sequence_keeps_scope : q.behind.scope ≡ s.scope
+  sequence_keeps_scope = (keeps_ok behind s (sequence_code schema STACK_LIMIT (sequence_of sequence) s) (Some f.class, q.behind) q.code_is (sequence_keeps schema (sequence_of sequence) STACK_LIMIT s)).scope
 
   pub free : position is_free s.scope.kinds ≡ Some f.local
-  free = ap (λ (c : Scope). position is_free c.kinds) (sym same) ∙ q.free
+  free = ap (λ (c : Scope). position is_free c.kinds) (sym sequence_keeps_scope) ∙ q.free
 
   abbrev pub held : Scope
   held = f.held.scope
 
   pub names_held : held.names ≡ s.scope.names
-  names_held = ap (λ (x : Buffer). x.scope.names) q.is ∙ ap (λ (c : Scope). c.names) same
+  names_held = ap (λ (x : Buffer). x.scope.names) q.is ∙ ap (λ (c : Scope). c.names) sequence_keeps_scope
 
   pub kinds_held : held.kinds ≡ set s.scope.kinds f.local (Seq f.class)
-  kinds_held = ap (λ (x : Buffer). x.scope.kinds) q.is ∙ ap (λ (c : Scope). set c.kinds f.local (Seq f.class)) same
+  kinds_held = ap (λ (x : Buffer). x.scope.kinds) q.is ∙ ap (λ (c : Scope). set c.kinds f.local (Seq f.class)) sequence_keeps_scope
 
   pub agree_held : Agree s.scope.kinds held.kinds
   agree_held i taken = set_agree s.scope.kinds f.local (Seq f.class) free i taken ∙ ap (λ ks. aged (kind_at ks i)) (sym kinds_held)

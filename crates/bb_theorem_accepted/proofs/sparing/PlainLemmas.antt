@@ -7,9 +7,9 @@ use Rattle.bb_basis.proofs.ResultLemmas.{bind_ok, same_ok}
 use Rattle.bb_schema_classes.specs.declared.kind.Kind.{Kind as SlotKind}
 use Rattle.bb_schema_classes.specs.declared.kind.Kind.TheVariants as held
 use Rattle.bb_schema.specs.Schema.{Schema, label_set_named, label_named}
-use Rattle.bb_verify_effect.specs.Kind.{Kind}
-use Rattle.bb_verify_effect.specs.Kind.TheVariants as kinds
-use Rattle.bb_verify_effect.specs.Op.TheVariants as ops
+use Rattle.bb_code.specs.declared.frame.Kind.{Kind}
+use Rattle.bb_code.specs.declared.frame.Kind.TheVariants as kinds
+use Rattle.bb_code.specs.declared.op.Op.TheVariants as ops
 use Rattle.bb_lang.specs.Atom.{Atom}
 use Rattle.bb_lang.specs.Atom.TheVariants as atoms
 use Rattle.bb_lang.specs.Trees.{ExprTree, atom, unary, binary, chain, size_of, no_step, apply, divide}

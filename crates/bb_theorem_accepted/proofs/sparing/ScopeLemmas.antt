@@ -5,7 +5,7 @@ use Rattle.std.specs.Prelude.{set, take, position}
 use Rattle.std.proofs.Math.Seq.{take-append_seam}
 use Rattle.std.proofs.lemmas.List.{append-nil, length-set}
 use Rattle.bb_basis.proofs.PositionLemmas.{position_within}
-use Rattle.bb_verify_effect.specs.Kind.{Kind}
+use Rattle.bb_code.specs.declared.frame.Kind.{Kind}
 use Rattle.bb_compile_scope.specs.Kinds.{is_live}
 use Rattle.bb_compile_scope.specs.LocalKinds.{is_free, kind_at, left_kind, met_kind, kinds_met}
 use Rattle.bb_compile_scope.specs.Scope.{mark_of, back_to}

@@ -5,8 +5,8 @@ use Rattle.bb_basis.proofs.BoolLemmas.{and_first, and_second}
 use Rattle.bb_basis.proofs.PositionLemmas.{position_within}
 use Rattle.bb_schema.specs.Schema.{Schema}
 use Rattle.bb_schema.specs.Ownership.{strikes}
-use Rattle.bb_verify_effect.specs.Kind.{Kind}
-use Rattle.bb_verify_effect.specs.Kind.TheVariants as kinds
+use Rattle.bb_code.specs.declared.frame.Kind.{Kind}
+use Rattle.bb_code.specs.declared.frame.Kind.TheVariants as kinds
 use Rattle.bb_verify_effect.specs.Kinds.{struck}
 use Rattle.bb_compile_scope.specs.Kinds.{class_of, is_live}
 use Rattle.bb_compile_scope.specs.LocalKinds.{is_free, kind_at, met_kind}

@@ -5,7 +5,7 @@ use Rattle.bb_basis.proofs.ResultLemmas.{bind_ok}
 use Rattle.bb_code.specs.declared.parts.TheConstants.{STACK_LIMIT}
 use Rattle.bb_schema.specs.Schema.{Schema, class_named}
 use Rattle.bb_verify_effect.specs.declared.part.Part.{Part}
-use Rattle.bb_verify_effect.specs.Kind.TheVariants.{Ref}
+use Rattle.bb_code.specs.declared.frame.Kind.TheVariants.{Ref}
 use Rattle.bb_lang.specs.Binding.{Binding}
 use Rattle.bb_lang.specs.Binding.TheVariants as bindings
 use Rattle.bb_lang.specs.Trees.{ExprTree}

@@ -9,12 +9,12 @@ use Rattle.bb_code.specs.declared.parts.TheConstants.{STACK_LIMIT, SAID_LIMIT}
 use Rattle.bb_code.specs.declared.op.LinkChange.TheVariants as changes
 use Rattle.bb_schema.specs.Schema.{Schema}
 use Rattle.bb_schema.specs.Fits as schemas
-use Rattle.bb_verify_effect.specs.Code.{Code}
-use Rattle.bb_verify_effect.specs.Flaw.{Flaw as CodeFlaw}
-use Rattle.bb_verify_effect.specs.Kind.{Kind}
-use Rattle.bb_verify_effect.specs.Kind.TheVariants as kinds
-use Rattle.bb_verify_effect.specs.Op.{Op}
-use Rattle.bb_verify_effect.specs.Op.TheVariants as ops
+use Rattle.bb_code.specs.Code.{Code}
+use Rattle.bb_code.specs.declared.flaw.Flaw.{Flaw as CodeFlaw}
+use Rattle.bb_code.specs.declared.frame.Kind.{Kind}
+use Rattle.bb_code.specs.declared.frame.Kind.TheVariants as kinds
+use Rattle.bb_code.specs.declared.op.Op.{Op}
+use Rattle.bb_code.specs.declared.op.Op.TheVariants as ops
 use Rattle.bb_lang.specs.Action.{Action}
 use Rattle.bb_lang.specs.Action.TheVariants as actions
 use Rattle.bb_lang.specs.Trees.{ExprTree}
@@ -25,14 +25,14 @@ use Rattle.bb_compile_buffer.specs.declared.buffer.Buffer.{Buffer}
 use Rattle.bb_compile_buffer.specs.Buffers.{noted, due, put}
 use Rattle.bb_compile.specs.Expressions.{expr_code}
 use Rattle.bb_compile.specs.Actions.{effect_noted, end_noted, values_code, say_code, end_code, action_code}
-use Rattle.bb_verify.specs.Each.{each}
-use Rattle.bb_verify.specs.Part.{writes, ends_done, ends_rated, ends_answered}
-use Rattle.bb_verify.specs.PartType.{Part}
-use Rattle.bb_verify.specs.PartType.TheVariants.{Require, Obviate, Retrigger, Revalidate, Do}
-use Rattle.bb_verify.specs.FrameType.{Frame}
-use Rattle.bb_verify.specs.Frame.{with_stack, pop, enough}
-use Rattle.bb_verify.specs.Due as dues
-use Rattle.bb_verify.specs.Effect.{effect, on, say, rate, decline, answer}
+use Rattle.bb_code.specs.Each.{each}
+use Rattle.bb_verify_effect.specs.Part.{writes, ends_done, ends_rated, ends_answered}
+use Rattle.bb_verify_effect.specs.declared.part.Part.{Part}
+use Rattle.bb_verify_effect.specs.declared.part.Part.TheVariants.{Require, Obviate, Retrigger, Revalidate, Do}
+use Rattle.bb_verify_effect.specs.declared.frame.Frame.{Frame}
+use Rattle.bb_verify_effect.specs.Frame.{with_stack, pop, enough}
+use Rattle.bb_verify_effect.specs.Due as dues
+use Rattle.bb_verify_effect.specs.Effect.{effect, on, say, rate, decline, answer}
 use Rattle.bb_verify.specs.Tables.{in_tables}
 use Rattle.bb_theorem_accepted.proofs.buffers.StraightLemmas.{Gives, Ends, Leads, leads_on, runs_on, nothing_follows}
 use Rattle.bb_theorem_accepted.proofs.kinds.UnderLemmas.{is_due, under_copied}

@@ -12,13 +12,13 @@ use Rattle.bb_schema_classes.specs.declared.label_set.LabelSet.{LabelSet}
 use Rattle.bb_code.specs.declared.parts.TheConstants.{STACK_LIMIT, TEXT_BYTES_LIMIT, TEXT_COUNT_LIMIT}
 use Rattle.bb_schema.specs.Schema.{Schema, label_set_named, label_named}
 use Rattle.bb_schema.specs.Fits as schemas
-use Rattle.bb_verify_effect.specs.Code.{Code}
-use Rattle.bb_verify_effect.specs.Flaw.{Flaw as CodeFlaw}
-use Rattle.bb_verify_effect.specs.Flaw.TheVariants.{Table}
-use Rattle.bb_verify_effect.specs.Kind.{Kind}
-use Rattle.bb_verify_effect.specs.Kind.TheVariants as kinds
-use Rattle.bb_verify_effect.specs.Op.{Op}
-use Rattle.bb_verify_effect.specs.Op.TheVariants as ops
+use Rattle.bb_code.specs.Code.{Code}
+use Rattle.bb_code.specs.declared.flaw.Flaw.{Flaw as CodeFlaw}
+use Rattle.bb_code.specs.declared.flaw.Flaw.TheVariants.{Table}
+use Rattle.bb_code.specs.declared.frame.Kind.{Kind}
+use Rattle.bb_code.specs.declared.frame.Kind.TheVariants as kinds
+use Rattle.bb_code.specs.declared.op.Op.{Op}
+use Rattle.bb_code.specs.declared.op.Op.TheVariants as ops
 use Rattle.bb_lang.specs.Atom.{Atom}
 use Rattle.bb_lang.specs.Atom.TheVariants as atoms
 use Rattle.bb_lang.specs.Variable.{Variable}
@@ -33,11 +33,11 @@ use Rattle.bb_compile_buffer.specs.declared.buffer.Buffer.{Buffer}
 use Rattle.bb_compile_buffer.specs.Buffers.{noted, put, text_at, text_index}
 use Rattle.bb_compile_buffer.specs.Operations.{Made}
 use Rattle.bb_compile_buffer.specs.Atoms.{pushed, unit_code, gotten, got_from, slot_code, text_noted, text_code, label_of, label_in, label_code, atom_code}
-use Rattle.bb_verify.specs.PartType.{Part}
-use Rattle.bb_verify.specs.FrameType.{Frame}
-use Rattle.bb_verify.specs.Frame.{with_stack, pop, room, push, local_at}
-use Rattle.bb_verify.specs.Due as due
-use Rattle.bb_verify.specs.Effect.{effect, on, load, pop_live, get}
+use Rattle.bb_verify_effect.specs.declared.part.Part.{Part}
+use Rattle.bb_verify_effect.specs.declared.frame.Frame.{Frame}
+use Rattle.bb_verify_effect.specs.Frame.{with_stack, pop, room, push, local_at}
+use Rattle.bb_verify_effect.specs.Due as due
+use Rattle.bb_verify_effect.specs.Effect.{effect, on, load, pop_live, get}
 use Rattle.bb_verify.specs.Tables.{in_tables, known_label}
 use Rattle.bb_theorem_accepted.proofs.buffers.StraightLemmas.{Gives}
 use Rattle.bb_theorem_accepted.proofs.kinds.UnderLemmas.{IsUnder, AreKnown, known_named, under_copied, under_class}

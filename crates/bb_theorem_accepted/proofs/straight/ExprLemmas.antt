@@ -6,17 +6,17 @@ use Rattle.bb_basis.specs.Results.{◌>>=◌}
 use Rattle.bb_basis.proofs.PositionLemmas.{position_within}
 use Rattle.bb_basis.proofs.ResultLemmas.{bind_ok, same_ok}
 use Rattle.bb_schema_classes.specs.declared.class.Class.{Class}
-use Rattle.bb_code.specs.Trees.{Tree, Trees, no_more}
-use Rattle.bb_code.specs.Trees as nodes
+use Rattle.bb_pattern.specs.Trees.{Tree, Trees, no_more}
+use Rattle.bb_pattern.specs.Trees as nodes
 use Rattle.bb_pattern.specs.Fits.{tests_fit, all_tests_fit}
 use Rattle.bb_pattern.specs.declared.fault.PatternFault.{PatternFault}
 use Rattle.bb_schema.specs.declared.space.Space.{Space}
 use Rattle.bb_schema.specs.Schema.{Schema, class_named, space_named, dims_of}
 use Rattle.bb_schema.specs.Fits as schemas
-use Rattle.bb_verify_effect.specs.Code.{Code}
-use Rattle.bb_verify_effect.specs.Kind.TheVariants as kinds
-use Rattle.bb_verify_effect.specs.Op.TheVariants as ops
-use Rattle.bb_verify_effect.specs.OperandKind.{OperandKind}
+use Rattle.bb_code.specs.Code.{Code}
+use Rattle.bb_code.specs.declared.frame.Kind.TheVariants as kinds
+use Rattle.bb_code.specs.declared.op.Op.TheVariants as ops
+use Rattle.bb_pattern.specs.declared.value.OperandKind.{OperandKind}
 use Rattle.bb_lang.specs.Trees.{ExprTree, Steps, SequenceTree, PatternTree, Patterns, atom, unary, binary, chain, size_of, no_step, apply, divide, found, linked, all, and_of, or_of, not_of, test, no_pattern, more}
 use Rattle.bb_compile_scope.specs.declared.fault.CompileFault.{CompileFault}
 use Rattle.bb_compile.specs.declared.asked.Asked.{Asked}
@@ -25,7 +25,7 @@ use Rattle.bb_compile.specs.Queries.{Patterned, no_operand, node_counted, node_n
 use Rattle.bb_compile_buffer.specs.declared.buffer.Buffer.{Buffer}
 use Rattle.bb_compile_buffer.specs.Buffers.{known, put}
 use Rattle.bb_compile_buffer.specs.Operations.{Made, unary_code, binary_code, operator_code, division_code}
-use Rattle.bb_verify.specs.PartType.{Part}
+use Rattle.bb_verify_effect.specs.declared.part.Part.{Part}
 use Rattle.bb_theorem_accepted.proofs.buffers.BufferLemmas.{Clean, Has, with_op, is_known, put_ok, grown_none, grown_op, has_before}
 use Rattle.bb_theorem_accepted.proofs.buffers.PutLemmas.{pair_ok, triple_ok, clean_before}
 use Rattle.bb_theorem_accepted.proofs.buffers.LayLemmas.{Lays, Turns, LaysUnits, lays_on, turns_on}

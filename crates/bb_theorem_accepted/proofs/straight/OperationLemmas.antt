@@ -9,12 +9,12 @@ use Rattle.bb_code.specs.declared.op.Comparison.TheVariants as comparisons
 use Rattle.bb_code.specs.declared.op.Logic.TheVariants as logics
 use Rattle.bb_schema.specs.Schema.{Schema}
 use Rattle.bb_schema.specs.Fits as schemas
-use Rattle.bb_verify_effect.specs.Code.{Code}
-use Rattle.bb_verify_effect.specs.Kind.{Kind}
-use Rattle.bb_verify_effect.specs.Kind.TheVariants as kinds
+use Rattle.bb_code.specs.Code.{Code}
+use Rattle.bb_code.specs.declared.frame.Kind.{Kind}
+use Rattle.bb_code.specs.declared.frame.Kind.TheVariants as kinds
 use Rattle.bb_verify_effect.specs.Kinds.{is_same_plain}
-use Rattle.bb_verify_effect.specs.Op.{Op}
-use Rattle.bb_verify_effect.specs.Op.TheVariants as ops
+use Rattle.bb_code.specs.declared.op.Op.{Op}
+use Rattle.bb_code.specs.declared.op.Op.TheVariants as ops
 use Rattle.bb_lang.specs.Unary.{Unary}
 use Rattle.bb_lang.specs.Unary.TheVariants as unaries
 use Rattle.bb_lang.specs.Binary.{Binary}
@@ -28,10 +28,10 @@ use Rattle.bb_compile_scope.specs.Kinds.{equality}
 use Rattle.bb_compile_buffer.specs.declared.buffer.Buffer.{Buffer}
 use Rattle.bb_compile_buffer.specs.Buffers.{noted}
 use Rattle.bb_compile_buffer.specs.Operations.{Made, one_due, two_due, unary_code, equality_by, equality_code, binary_code, operator_code, division_op, divisor_noted, division_code}
-use Rattle.bb_verify.specs.PartType.{Part}
+use Rattle.bb_verify_effect.specs.declared.part.Part.{Part}
 use Rattle.bb_theorem_accepted.proofs.buffers.BufferLemmas.{Clean, Grown, with_op, not_failed, never_noted, put_ok, grown_op, grown_none}
 use Rattle.bb_theorem_accepted.proofs.buffers.PutLemmas.{pair_ok, clean_before, one_due_ok, one_due_kind, two_due_ok, two_due_kinds}
-use Rattle.bb_theorem_accepted.proofs.buffers.EffectLemmas.{OneGives, TwoGives, calculates, compares, both, intervals, negates, ends_of, divides, equals}
+use Rattle.bb_theorem_accepted.proofs.buffers.EffectLemmas.{OneGives, TwoGives, calculates, compares, combine_gives, intervals, negates, ends_of, divides, equals}
 use Rattle.bb_theorem_accepted.proofs.buffers.LayLemmas.{Lays, Turns, one_turns, two_turns}
 
 -- a buffer has no flaw before an operation where it has none after it
@@ -117,8 +117,8 @@ module _ (schema : Schema) (sf : schemas.Fits schema) (part : Part) (code : Code
   binary_turns binaries.Interval l r space s t u made more h clean = due_turns ops.MakeInterval kinds.Int kinds.Interval l r space s t u made more h clean (intervals schema sf part code)
 
   pub operator_turns : (operator : Operator) (left right : Made) (space : ℕ) (s t u : Buffer) (made : Made) → Lays schema sf part code (space - 1) s t right → operator_code operator left right t ≡ Ok (made, u) → Clean u → Turns schema sf part code space s u left made
-  operator_turns operators.Or l r space s t u made more h clean = due_turns (ops.Combine logics.Or) kinds.Bool kinds.Bool l r space s t u made more h clean (both schema sf part code logics.Or)
-  operator_turns operators.And l r space s t u made more h clean = due_turns (ops.Combine logics.And) kinds.Bool kinds.Bool l r space s t u made more h clean (both schema sf part code logics.And)
+  operator_turns operators.Or l r space s t u made more h clean = due_turns (ops.Combine logics.Or) kinds.Bool kinds.Bool l r space s t u made more h clean (combine_gives schema sf part code logics.Or)
+  operator_turns operators.And l r space s t u made more h clean = due_turns (ops.Combine logics.And) kinds.Bool kinds.Bool l r space s t u made more h clean (combine_gives schema sf part code logics.And)
   operator_turns operators.Plus l r space s t u made more h clean = due_turns (ops.Calculate calculations.Add) kinds.Int kinds.Int l r space s t u made more h clean (calculates schema sf part code calculations.Add)
   operator_turns operators.Minus l r space s t u made more h clean = due_turns (ops.Calculate calculations.Sub) kinds.Int kinds.Int l r space s t u made more h clean (calculates schema sf part code calculations.Sub)
   operator_turns operators.Times l r space s t u made more h clean = due_turns (ops.Calculate calculations.Mul) kinds.Int kinds.Int l r space s t u made more h clean (calculates schema sf part code calculations.Mul)

@@ -7,23 +7,23 @@ use Rattle.std.proofs.lemmas.Option.{slice_get_within}
 use Rattle.bb_basis.specs.Results.{◌>>=◌}
 use Rattle.bb_basis.proofs.ResultLemmas.{bind_ok, guard_ok}
 use Rattle.bb_code.specs.declared.parts.TheConstants.{STACK_LIMIT, QUERY_LIMIT}
-use Rattle.bb_code.specs.PatternLimits.{NODE_LIMIT, OPERAND_LIMIT}
-use Rattle.bb_code.specs.Trees.{Tree, Trees, all, node_count}
+use Rattle.bb_pattern.specs.declared.fits.TheConstants.{NODE_LIMIT, OPERAND_LIMIT}
+use Rattle.bb_pattern.specs.Trees.{Tree, Trees, all, node_count}
 use Rattle.bb_pattern.specs.declared.fault.PatternFault.{PatternFault}
 use Rattle.bb_pattern.specs.Fits.{tests_fit, all_tests_fit, ordered_fits, is_fits, pattern_fits, query_fits}
 use Rattle.bb_schema.specs.declared.space.Dim.{Dim}
 use Rattle.bb_schema.specs.Schema.{Schema, dims_of}
 use Rattle.bb_schema.specs.Fits as schemas
-use Rattle.bb_verify_effect.specs.Code.{Code}
-use Rattle.bb_verify_effect.specs.Flaw.{Flaw as CodeFlaw}
-use Rattle.bb_verify_effect.specs.Flaw.TheVariants as flaws
-use Rattle.bb_verify_effect.specs.Kind.{Kind}
-use Rattle.bb_verify_effect.specs.Kind.TheVariants as kinds
+use Rattle.bb_code.specs.Code.{Code}
+use Rattle.bb_code.specs.declared.flaw.Flaw.{Flaw as CodeFlaw}
+use Rattle.bb_code.specs.declared.flaw.Flaw.TheVariants as flaws
+use Rattle.bb_code.specs.declared.frame.Kind.{Kind}
+use Rattle.bb_code.specs.declared.frame.Kind.TheVariants as kinds
 use Rattle.bb_verify_effect.specs.Kinds.{is_same_plain}
-use Rattle.bb_verify_effect.specs.Op.TheVariants as ops
-use Rattle.bb_verify_effect.specs.OperandKind.{OperandKind}
-use Rattle.bb_verify_effect.specs.OperandKind.TheVariants as operands
-use Rattle.bb_verify_effect.specs.Query.{Query}
+use Rattle.bb_code.specs.declared.op.Op.TheVariants as ops
+use Rattle.bb_pattern.specs.declared.value.OperandKind.{OperandKind}
+use Rattle.bb_pattern.specs.declared.value.OperandKind.TheVariants as operands
+use Rattle.bb_pattern.specs.declared.query.Query.{Query}
 use Rattle.bb_lang.specs.Relation.{Relation}
 use Rattle.bb_lang.specs.Relation.TheVariants as relations
 use Rattle.bb_compile_scope.specs.declared.fault.CompileFault.{CompileFault}
@@ -36,11 +36,11 @@ use Rattle.bb_compile.specs.Queries.{Patterned, no_operand, node_counted, node_n
 use Rattle.bb_compile_buffer.specs.declared.buffer.Buffer.{Buffer}
 use Rattle.bb_compile_buffer.specs.Buffers.{noted, due, put_value, asked_query}
 use Rattle.bb_compile_buffer.specs.Operations.{Made}
-use Rattle.bb_verify.specs.PartType.{Part}
-use Rattle.bb_verify.specs.FrameType.{Frame}
-use Rattle.bb_verify.specs.Frame.{with_stack, enough, room, push}
-use Rattle.bb_verify.specs.Due as dues
-use Rattle.bb_verify.specs.Effect.{effect, on, find}
+use Rattle.bb_verify_effect.specs.declared.part.Part.{Part}
+use Rattle.bb_verify_effect.specs.declared.frame.Frame.{Frame}
+use Rattle.bb_verify_effect.specs.Frame.{with_stack, enough, room, push}
+use Rattle.bb_verify_effect.specs.Due as dues
+use Rattle.bb_verify_effect.specs.Effect.{effect, on, find}
 use Rattle.bb_verify.specs.Tables.{in_tables}
 use Rattle.bb_theorem_accepted.proofs.buffers.StraightLemmas.{Gives, Leads, leads_on}
 use Rattle.bb_theorem_accepted.proofs.kinds.UnderLemmas.{under_plain}

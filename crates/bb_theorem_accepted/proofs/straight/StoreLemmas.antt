@@ -10,12 +10,12 @@ use Rattle.bb_basis.proofs.ResultLemmas.{bind_ok, same_ok}
 use Rattle.bb_code.specs.declared.parts.TheConstants.{STACK_LIMIT}
 use Rattle.bb_schema.specs.Schema.{Schema, class_named}
 use Rattle.bb_schema.specs.Fits as schemas
-use Rattle.bb_verify_effect.specs.Code.{Code}
-use Rattle.bb_verify_effect.specs.Flaw.{Flaw as CodeFlaw}
-use Rattle.bb_verify_effect.specs.Kind.{Kind}
-use Rattle.bb_verify_effect.specs.Kind.TheVariants as kinds
-use Rattle.bb_verify_effect.specs.Op.{Op}
-use Rattle.bb_verify_effect.specs.Op.TheVariants as ops
+use Rattle.bb_code.specs.Code.{Code}
+use Rattle.bb_code.specs.declared.flaw.Flaw.{Flaw as CodeFlaw}
+use Rattle.bb_code.specs.declared.frame.Kind.{Kind}
+use Rattle.bb_code.specs.declared.frame.Kind.TheVariants as kinds
+use Rattle.bb_code.specs.declared.op.Op.{Op}
+use Rattle.bb_code.specs.declared.op.Op.TheVariants as ops
 use Rattle.bb_lang.specs.Trees.{ExprTree}
 use Rattle.bb_compile_scope.specs.declared.fault.TextFlaw.TheVariants.{Unknown, Kind as WrongKind}
 use Rattle.bb_compile_scope.specs.declared.scope.NamedLocal.{NamedLocal}
@@ -29,11 +29,11 @@ use Rattle.bb_compile_buffer.specs.Buffers.{noted, put, with_kinds, taken, take_
 use Rattle.bb_compile_buffer.specs.Operations.{Made}
 use Rattle.bb_compile.specs.Expressions.{expr_code}
 use Rattle.bb_compile.specs.Actions.{let_as, let_code, assign_as, assign_to, assign_code, new_of, new_code}
-use Rattle.bb_verify.specs.Part.{writes, ends_done}
-use Rattle.bb_verify.specs.PartType.{Part}
-use Rattle.bb_verify.specs.FrameType.{Frame}
-use Rattle.bb_verify.specs.Frame.{with_stack, with_local, pop, push}
-use Rattle.bb_verify.specs.Effect.{effect, on, store_local, new_unit}
+use Rattle.bb_verify_effect.specs.Part.{writes, ends_done}
+use Rattle.bb_verify_effect.specs.declared.part.Part.{Part}
+use Rattle.bb_verify_effect.specs.declared.frame.Frame.{Frame}
+use Rattle.bb_verify_effect.specs.Frame.{with_stack, with_local, pop, push}
+use Rattle.bb_verify_effect.specs.Effect.{effect, on, store_local, new_unit}
 use Rattle.bb_verify.specs.Tables.{in_tables, known_kind}
 use Rattle.bb_theorem_accepted.proofs.buffers.StraightLemmas.{Gives, Leads, Runs, leads_on}
 use Rattle.bb_theorem_accepted.proofs.kinds.UnderLemmas.{IsUnder, AreKnown, descends_same, under_assigned, under_known, known_set, known_more, known_named, set_here}

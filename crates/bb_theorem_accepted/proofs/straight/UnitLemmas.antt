@@ -11,15 +11,15 @@ use Rattle.bb_code.specs.declared.op.LinkChange.{LinkChange}
 use Rattle.bb_schema.specs.Schema.{Schema, space_named, descends}
 use Rattle.bb_schema.specs.Spaces.{allowed, classes_in}
 use Rattle.bb_schema.specs.Fits as schemas
-use Rattle.bb_verify_effect.specs.Code.{Code}
-use Rattle.bb_verify_effect.specs.Flaw.{Flaw as CodeFlaw}
-use Rattle.bb_verify_effect.specs.Kind.{Kind}
+use Rattle.bb_code.specs.Code.{Code}
+use Rattle.bb_code.specs.declared.flaw.Flaw.{Flaw as CodeFlaw}
+use Rattle.bb_code.specs.declared.frame.Kind.{Kind}
 use Rattle.bb_schema.specs.Ownership.{strikes}
-use Rattle.bb_verify_effect.specs.Kind.TheVariants as kinds
+use Rattle.bb_code.specs.declared.frame.Kind.TheVariants as kinds
 use Rattle.bb_verify_effect.specs.Kinds.{struck}
 use Rattle.bb_verify_effect.specs.Kinds as frame_kinds
-use Rattle.bb_verify_effect.specs.Op.{Op}
-use Rattle.bb_verify_effect.specs.Op.TheVariants as ops
+use Rattle.bb_code.specs.declared.op.Op.{Op}
+use Rattle.bb_code.specs.declared.op.Op.TheVariants as ops
 use Rattle.bb_lang.specs.Variable.{Variable}
 use Rattle.bb_lang.specs.Trees.{ExprTree}
 use Rattle.bb_compile_scope.specs.declared.fault.TextFlaw.{TextFlaw}
@@ -34,12 +34,12 @@ use Rattle.bb_compile_buffer.specs.Operations.{Made}
 use Rattle.bb_compile_buffer.specs.Atoms.{unit_code}
 use Rattle.bb_compile.specs.Expressions.{expr_code}
 use Rattle.bb_compile.specs.Actions.{set_by, set_in, set_code, link_noted, relinked_by, relinked_in, relink_code, space_noted, entered, enter_code, left_space, leave_code, deleted, delete_code}
-use Rattle.bb_verify.specs.Part.{writes}
-use Rattle.bb_verify.specs.PartType.{Part}
-use Rattle.bb_verify.specs.FrameType.{Frame}
-use Rattle.bb_verify.specs.Frame.{with_stack, pop, pop_two}
-use Rattle.bb_verify.specs.Due as dues
-use Rattle.bb_verify.specs.Effect.{effect, set_slot, relink, enter, leave, after_delete, delete}
+use Rattle.bb_verify_effect.specs.Part.{writes}
+use Rattle.bb_verify_effect.specs.declared.part.Part.{Part}
+use Rattle.bb_verify_effect.specs.declared.frame.Frame.{Frame}
+use Rattle.bb_verify_effect.specs.Frame.{with_stack, pop, pop_two}
+use Rattle.bb_verify_effect.specs.Due as dues
+use Rattle.bb_verify_effect.specs.Effect.{effect, set_slot, relink, enter, leave, after_delete, delete}
 use Rattle.bb_verify.specs.Tables.{in_tables}
 use Rattle.bb_theorem_accepted.proofs.buffers.StraightLemmas.{Gives, Leads, leads_on}
 use Rattle.bb_theorem_accepted.proofs.kinds.UnderLemmas.{IsUnder, AreKnown, descends_on, is_due, under_class, known_struck}
@@ -72,8 +72,8 @@ module _ (schema : Schema) (sf : schemas.Fits schema) (part : Part) (code : Code
   abbrev Below : Kind → (class : ℕ) → Type 0
   Below k c = (b : ℕ) × (dues.class_of k ≡ Ok b) × (descends schema b c ≡ true) × (dues.live k ≡ Ok tt)
 
-  below : (k t : Kind) (c : ℕ) → IsUnder schema sf k t → class_of t ≡ Some c → is_live t ≡ true → Below k c
-  below k t c under of live = let u = under_class schema sf k t c under of in (u.0, u.1, u.2, u.3 live)
+  live_is_below : (k t : Kind) (c : ℕ) → IsUnder schema sf k t → class_of t ≡ Some c → is_live t ≡ true → Below k c
+  live_is_below k t c under of live = let u = under_class schema sf k t c under of in (u.0, u.1, u.2, u.3 live)
 
   -- ---- an op on one value, and one on two
 
@@ -141,13 +141,13 @@ module _ (schema : Schema) (sf : schemas.Fits schema) (part : Part) (code : Code
     enter_gives : (space : ℕ) (t : Kind) (c : ℕ) (f : Frame) (k : Kind) → class_of t ≡ Some c → is_live t ≡ true → allowed schema space c ≡ true → IsUnder schema sf k t → Gives schema part code (ops.Enter space) (with_stack (k ∷ f.stack) f) f
     unfolding effect in_tables enter dues.space_due
     enter_gives space t c f k of live admits under =
-        let u = below k t c under of live in
+        let u = live_is_below k t c under of live in
         record { straight = refl; tables = refl; gives = rw (live_on schema sf part code k u.0 f f.stack u.1 u.3, allowed_below space u.0 c u.2 admits, may) refl }
 
     leave_gives : (space : ℕ) (t : Kind) (c : ℕ) (f : Frame) (k : Kind) → class_of t ≡ Some c → is_live t ≡ true → space < length schema.spaces → IsUnder schema sf k t → Gives schema part code (ops.Leave space) (with_stack (k ∷ f.stack) f) f
     unfolding effect in_tables leave dues.known_space
     leave_gives space t c f k of live there under =
-        let u = below k t c under of live in
+        let u = live_is_below k t c under of live in
         record { straight = refl; tables = refl; gives = rw (live_on schema sf part code k u.0 f f.stack u.1 u.3, lt-ltb space (length schema.spaces) there, may) refl }
 
     -- ---- delete
@@ -155,7 +155,7 @@ module _ (schema : Schema) (sf : schemas.Fits schema) (part : Part) (code : Code
     delete_gives : (t : Kind) (c : ℕ) (f : Frame) (k : Kind) → class_of t ≡ Some c → is_live t ≡ true → IsUnder schema sf k t → (b : ℕ) × (descends schema b c ≡ true) × Gives schema part code ops.Delete (with_stack (k ∷ f.stack) f) (after_delete schema b f)
     unfolding effect in_tables delete
     delete_gives t c f k of live under =
-        let u = below k t c under of live in
+        let u = live_is_below k t c under of live in
         (u.0, u.2, record { straight = refl; tables = refl; gives = rw (live_on schema sf part code k u.0 f f.stack u.1 u.3, may) refl })
 
     -- ---- set
@@ -168,7 +168,7 @@ module _ (schema : Schema) (sf : schemas.Fits schema) (part : Part) (code : Code
         → Gives schema part code (ops.Set p.0) (with_stack (l ∷ k ∷ f.stack) f) f
     unfolding effect in_tables set_slot pop_two pop
     set_gives t u c name p f k l of live slot same under other =
-        let b = below k t c under of live in
+        let b = live_is_below k t c under of live in
         let there = value_below schema sf c name b.0 b.2 p slot in
         record { straight = refl; tables = refl; gives = rw (b.1, value_due_ok b.0 p.0 p.1 l there (is_due schema sf l u p.1 other same), b.3, there, may) refl }
 
@@ -178,8 +178,8 @@ module _ (schema : Schema) (sf : schemas.Fits schema) (part : Part) (code : Code
         → descends schema d p.1.to ≡ true → IsUnder schema sf k t → IsUnder schema sf l u → Gives schema part code (ops.Relink change p.0) (with_stack (l ∷ k ∷ f.stack) f) f
     unfolding effect in_tables relink pop_two pop dues.partner_due
     relink_gives change t u c d name p f k l of live of_other live_other slot up under other =
-        let a = below k t c under of live in
-        let b = below l u d other of_other live_other in
+        let a = live_is_below k t c under of live in
+        let b = live_is_below l u d other of_other live_other in
         let there = link_below schema sf c name a.0 a.2 p slot in
         record { straight = refl; tables = refl; gives = rw (a.1, b.1, a.3, b.3, there, descends_on schema sf b.0 d p.1.to b.2 up, may) refl }
 

@@ -3,12 +3,12 @@ use Rattle.std.proofs.Common.{◌≡◌, inl, ℕ, ◌+◌, ◌<◌, ◌≤◌, 
 use Rattle.std.specs.Prelude.{option_map, is_ok}
 use Rattle.bb_schema.specs.Schema.{Schema}
 use Rattle.bb_schema.specs.Fits as schemas
-use Rattle.bb_verify_effect.specs.Code.{Code}
-use Rattle.bb_verify_effect.specs.Op.{Op}
+use Rattle.bb_code.specs.Code.{Code}
+use Rattle.bb_code.specs.declared.op.Op.{Op}
 use Rattle.bb_compile_buffer.specs.declared.buffer.Buffer.{Buffer}
-use Rattle.bb_verify.specs.FrameType.{Frame}
-use Rattle.bb_verify.specs.Part.{ends_done}
-use Rattle.bb_verify.specs.PartType.{Part}
+use Rattle.bb_verify_effect.specs.declared.frame.Frame.{Frame}
+use Rattle.bb_verify_effect.specs.Part.{ends_done}
+use Rattle.bb_verify_effect.specs.declared.part.Part.{Part}
 use Rattle.bb_verify.specs.Places.{frame_at, on_due}
 use Rattle.bb_theorem_accepted.proofs.buffers.BufferLemmas.{Grown, count_of}
 use Rattle.bb_theorem_accepted.proofs.straight.PatternLemmas.{AreSmall}

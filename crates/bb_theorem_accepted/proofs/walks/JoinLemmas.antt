@@ -6,13 +6,13 @@ use Rattle.std.specs.List.{range_with_len}
 use Rattle.std.proofs.lemmas.List.{length-map}
 use Rattle.bb_schema.specs.Schema.{Schema}
 use Rattle.bb_schema.specs.Fits as schemas
-use Rattle.bb_verify_effect.specs.Code.{Code}
-use Rattle.bb_verify_effect.specs.Kind.{Kind}
+use Rattle.bb_code.specs.Code.{Code}
+use Rattle.bb_code.specs.declared.frame.Kind.{Kind}
 use Rattle.bb_verify_effect.specs.Kinds.{frame_weakens}
 use Rattle.bb_compile_scope.specs.LocalKinds.{is_free, kind_at}
 use Rattle.bb_compile_buffer.specs.declared.buffer.Buffer.{Buffer}
-use Rattle.bb_verify.specs.FrameType.{Frame}
-use Rattle.bb_verify.specs.PartType.{Part}
+use Rattle.bb_verify_effect.specs.declared.frame.Frame.{Frame}
+use Rattle.bb_verify_effect.specs.declared.part.Part.{Part}
 use Rattle.bb_verify.specs.Places.{frame_at, fits_declared, on_due, target_due}
 use Rattle.bb_theorem_accepted.proofs.kinds.UnderLemmas.{AreKnown}
 use Rattle.bb_theorem_accepted.proofs.buffers.BufferLemmas.{Grown, Has, has_before, count_of}

@@ -6,19 +6,19 @@ use Rattle.std.proofs.lemmas.Bool.{lt-leb, lt-ltb}
 use Rattle.std.proofs.lemmas.List.{append-nil}
 use Rattle.bb_basis.specs.Results.{◌>>=◌, try_fold}
 use Rattle.bb_schema.specs.Schema.{Schema}
-use Rattle.bb_verify_effect.specs.Code.{Code}
-use Rattle.bb_verify_effect.specs.Flaw.{Flaw as CodeFlaw}
-use Rattle.bb_verify_effect.specs.Kind.{Kind}
-use Rattle.bb_verify_effect.specs.Kind.TheVariants as kinds
-use Rattle.bb_verify_effect.specs.Op.{Op}
-use Rattle.bb_verify_effect.specs.Op.TheVariants as ops
-use Rattle.bb_verify.specs.Edges.{Edges}
-use Rattle.bb_verify.specs.Due as dues
-use Rattle.bb_verify.specs.Effect.{effect, unless, only_there, either}
-use Rattle.bb_verify.specs.Frame.{with_stack, pop}
-use Rattle.bb_verify.specs.FrameType.{Frame}
+use Rattle.bb_code.specs.Code.{Code}
+use Rattle.bb_code.specs.declared.flaw.Flaw.{Flaw as CodeFlaw}
+use Rattle.bb_code.specs.declared.frame.Kind.{Kind}
+use Rattle.bb_code.specs.declared.frame.Kind.TheVariants as kinds
+use Rattle.bb_code.specs.declared.op.Op.{Op}
+use Rattle.bb_code.specs.declared.op.Op.TheVariants as ops
+use Rattle.bb_verify_effect.specs.Edges.{Edges}
+use Rattle.bb_verify_effect.specs.Due as dues
+use Rattle.bb_verify_effect.specs.Effect.{effect, unless, only_there, either}
+use Rattle.bb_verify_effect.specs.Frame.{with_stack, pop}
+use Rattle.bb_verify_effect.specs.declared.frame.Frame.{Frame}
 use Rattle.bb_verify.specs.nesting.Jumps.{target_of, before, ahead, check_target}
-use Rattle.bb_verify.specs.PartType.{Part}
+use Rattle.bb_verify_effect.specs.declared.part.Part.{Part}
 use Rattle.bb_verify.specs.Places.{declared_at, declared_frames, frame_at, on_due, target_due, has_next, declared_for, visit_op, visit}
 use Rattle.bb_verify.specs.Tables.{in_tables}
 use Rattle.bb_theorem_accepted.proofs.buffers.StraightLemmas.{Gives, Ends, Leads, Runs, goes_on, nothing_follows}

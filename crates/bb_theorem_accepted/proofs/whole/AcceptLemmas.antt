@@ -4,7 +4,7 @@ use Rattle.std.proofs.lemmas.List.{append-nil}
 use Rattle.bb_basis.proofs.ResultLemmas.{bind_ok}
 use Rattle.bb_schema.specs.Schema.{Schema}
 use Rattle.bb_schema.specs.Fits as schemas
-use Rattle.bb_verify_effect.specs.Code.{Code}
+use Rattle.bb_code.specs.Code.{Code}
 use Rattle.bb_lang.specs.Blocks.{BlockTree, StatementTree, no_statement, before_others, action, if_of, with_of, for_of, absent, otherwise}
 use Rattle.bb_compile_scope.specs.Scope.{mark_of}
 use Rattle.bb_compile_scope.specs.Ending.{ends}
@@ -12,8 +12,8 @@ use Rattle.bb_compile_scope.specs.Place.{Place}
 use Rattle.bb_compile_scope.specs.declared.fault.TextFlaw.TheVariants.{NoEnd}
 use Rattle.bb_compile_buffer.specs.declared.buffer.Buffer.{Buffer}
 use Rattle.bb_compile.specs.Statements.{after_end, statement_code, statements_code}
-use Rattle.bb_verify.specs.FrameType.{Frame}
-use Rattle.bb_verify.specs.PartType.{Part}
+use Rattle.bb_verify_effect.specs.declared.frame.Frame.{Frame}
+use Rattle.bb_verify_effect.specs.declared.part.Part.{Part}
 use Rattle.bb_theorem_accepted.proofs.buffers.BufferLemmas.{Grown, Has, never_noted, grown_none, grown_on, count_of, has_before}
 use Rattle.bb_theorem_accepted.proofs.buffers.PutLemmas.{pair_ok}
 use Rattle.bb_theorem_accepted.proofs.straight.PatternLemmas.{AreSmall}
@@ -93,9 +93,9 @@ module _ (schema : Schema) (sf : schemas.Fits schema) (part : Part) (code : Code
   traced_next s t g has frames next out walks traced =
       subst (λ n. TracedHere frames n out) (sym (count_of s t g)) (traced_walk schema part code frames t has (length s.ops) s.ops g.ops [] next out refl (g.ops_are ∙ ap (λ l. s.ops ++ l) (sym (append-nil g.ops))) walks traced)
 
-  goes_on : (now : Bool) (s t u : Buffer) (S T : List Frame → Type 0) → Has code t → GoesHere s t false S → GoesHere t u now T → GoesHere s u now (λ frames. S frames × T frames)
+  goes_then : (now : Bool) (s t u : Buffer) (S T : List Frame → Type 0) → Has code t → GoesHere s t false S → GoesHere t u now T → GoesHere s u now (λ frames. S frames × T frames)
   unfolding grown_on
-  goes_on now s t u S T has first then = record {
+  goes_then now s t u S T has first then = record {
     grown = grown_on s t u first.grown then.grown;
     moves = moves_on schema sf s t u first.moves then.moves;
     sound = then.sound;
@@ -121,7 +121,7 @@ module _ (schema : Schema) (sf : schemas.Fits schema) (part : Part) (code : Code
   pub joined : (e now : Bool) (s t u : Buffer) (S T : List Frame → Type 0) → Has code t → GoesHere s t e S → Block e now t u T → GoesHere s u now (λ frames. S frames × T frames)
   joined true now s t u S T has first rest =
       subst (λ b. GoesHere s u b (λ frames. S frames × T frames)) (sym rest.1) (subst (λ x. GoesHere s x true (λ frames. S frames × T frames)) rest.0 (goes_with s t true S (λ frames. S frames × T frames) (λ frames own. (own, rest.2 frames)) first))
-  joined false now s t u S T has first rest = goes_on now s t u S T has first rest
+  joined false now s t u S T has first rest = goes_then now s t u S T has first rest
 
   -- the frame where a statement with blocks begins fits what the compiler knows there
   abbrev pub Found : List Frame → Buffer → Type 0

@@ -5,22 +5,22 @@ use Rattle.std.specs.List.{list_all}
 use Rattle.std.proofs.lemmas.Bool.{leb-true}
 use Rattle.std.proofs.lemmas.List.{length-replicate}
 use Rattle.bb_basis.proofs.BoolLemmas.{and_first, and_second}
-use Rattle.bb_code.specs.PatternLimits.{NODE_LIMIT, OPERAND_LIMIT}
-use Rattle.bb_code.specs.Trees.{node_count}
+use Rattle.bb_pattern.specs.declared.fits.TheConstants.{NODE_LIMIT, OPERAND_LIMIT}
+use Rattle.bb_pattern.specs.Trees.{node_count}
 use Rattle.bb_schema.specs.Schema.{Schema}
 use Rattle.bb_schema.specs.Fits as schemas
-use Rattle.bb_verify_effect.specs.Code.{Code}
-use Rattle.bb_verify_effect.specs.Kind.TheVariants as kinds
-use Rattle.bb_verify_effect.specs.Query.{Query}
+use Rattle.bb_code.specs.Code.{Code}
+use Rattle.bb_code.specs.declared.frame.Kind.TheVariants as kinds
+use Rattle.bb_pattern.specs.declared.query.Query.{Query}
 use Rattle.bb_schema.specs.Ownership.{owns_any}
 use Rattle.bb_code.specs.declared.version.Version.TheVariants.{One, Two}
 use Rattle.bb_compile_scope.specs.Scope.{begin_with}
 use Rattle.bb_code.specs.declared.parts.TheConstants.{LOCAL_LIMIT, TEXT_COUNT_LIMIT, QUERY_LIMIT, FRAME_LIMIT, LOOP_LIMIT, OP_LIMIT}
 use Rattle.bb_compile_buffer.specs.Within.{text_within, query_within, frame_within, loop_within, op_within, list_within, is_within}
 use Rattle.bb_compile.specs.Parts.{version_for}
-use Rattle.bb_verify.specs.Part.{units_of}
-use Rattle.bb_verify.specs.PartType.{Part}
-use Rattle.bb_verify.specs.PartType.TheVariants.{Require, Obviate, Retrigger, Revalidate, Do}
+use Rattle.bb_verify_effect.specs.Part.{units_of}
+use Rattle.bb_verify_effect.specs.declared.part.Part.{Part}
+use Rattle.bb_verify_effect.specs.declared.part.Part.TheVariants.{Require, Obviate, Retrigger, Revalidate, Do}
 use Rattle.bb_verify.specs.Tables.{fit_version}
 use Rattle.bb_verify.specs.Places.{entry_frame}
 use Rattle.bb_theorem_accepted.proofs.kinds.UnderLemmas.{AreKnown, descends_same}

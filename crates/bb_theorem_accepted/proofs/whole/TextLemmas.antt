@@ -6,10 +6,10 @@ use Rattle.bb_basis.specs.Results.{◌>>=◌}
 use Rattle.bb_basis.proofs.ResultLemmas.{bind_ok, guard_ok, same_ok}
 use Rattle.bb_schema.specs.Schema.{Schema}
 use Rattle.bb_schema.specs.Fits as schemas
-use Rattle.bb_verify_effect.specs.Code.{Code}
-use Rattle.bb_verify_effect.specs.Flaw.{Flaw as CodeFlaw}
-use Rattle.bb_verify_effect.specs.Op.{Op}
-use Rattle.bb_verify_effect.specs.Op.TheVariants as ops
+use Rattle.bb_code.specs.Code.{Code}
+use Rattle.bb_code.specs.declared.flaw.Flaw.{Flaw as CodeFlaw}
+use Rattle.bb_code.specs.declared.op.Op.{Op}
+use Rattle.bb_code.specs.declared.op.Op.TheVariants as ops
 use Rattle.bb_lang.specs.Blocks.{BlockTree}
 use Rattle.bb_compile_scope.specs.Ending.{block_ends}
 use Rattle.bb_compile_scope.specs.Place.{Place}
@@ -24,12 +24,12 @@ use Rattle.bb_compile_buffer.specs.Within.{query_within, is_within}
 use Rattle.bb_compile.specs.Statements.{left, statements_code, block_code}
 use Rattle.bb_compile.specs.Parts.{has_no_end, done, version_for, part_code}
 use Rattle.bb_compile.specs.declared.part.TheConstants.{LOOP_NESTING}
-use Rattle.bb_verify.specs.Effect as effects
-use Rattle.bb_verify.specs.Effect.{effect}
-use Rattle.bb_verify.specs.FrameType.{Frame}
-use Rattle.bb_verify.specs.Part.{units_of, ends_done}
-use Rattle.bb_verify.specs.PartType.{Part}
-use Rattle.bb_verify.specs.PartType.TheVariants.{Require, Obviate, Retrigger, Revalidate, Do}
+use Rattle.bb_verify_effect.specs.Effect as effects
+use Rattle.bb_verify_effect.specs.Effect.{effect}
+use Rattle.bb_verify_effect.specs.declared.frame.Frame.{Frame}
+use Rattle.bb_verify_effect.specs.Part.{units_of, ends_done}
+use Rattle.bb_verify_effect.specs.declared.part.Part.{Part}
+use Rattle.bb_verify_effect.specs.declared.part.Part.TheVariants.{Require, Obviate, Retrigger, Revalidate, Do}
 use Rattle.bb_verify.specs.Accepted.{checked}
 use Rattle.bb_verify.specs.Places.{entry_frame, on_due}
 use Rattle.bb_verify.specs.Tables.{in_tables}
@@ -166,9 +166,9 @@ module _ (schema : Schema) (sf : schemas.Fits schema) (part : Part) (classes : H
     ops_are = goes.grown.ops_are
 
     -- the frames that are found, and what they tell
-    told : Rises 0 (listed u.labels u.last) (length u.ops) → Walks schema part code 0 u.ops (Some entry) None → on_due schema (Some entry) (At schema part code 0) ≡ Ok tt → ((frames : List Frame) → Traced schema part code frames 0 (Some entry) → Told now t h frames)
+    walk_told : Rises 0 (listed u.labels u.last) (length u.ops) → Walks schema part code 0 u.ops (Some entry) None → on_due schema (Some entry) (At schema part code 0) ≡ Ok tt → ((frames : List Frame) → Traced schema part code frames 0 (Some entry) → Told now t h frames)
         → Accepted code now t h
-    told rises walks on tells =
+    walk_told rises walks on tells =
         let frames = walked_frames schema part code 0 u.ops (Some entry) None walks in (
           frames,
           walked_accepted schema sf part code u.labels u.last refl rises (subst (AllLabels (AreGood schema sf part code)) (sym labels_are) goes.sound.good) few (version_fits schema) loops_pass None walks on,
@@ -185,7 +185,7 @@ module _ (schema : Schema) (sf : schemas.Fits schema) (part : Part) (classes : H
         subst (λ l. Walks schema part code 0 l (Some entry) None) (sym (same ∙ ops_are)) (subst (λ b. After schema sf part code b 0 goes.grown.ops (Some entry) t) ends_so after.0) in
         let rises : Rises 0 (listed u.labels u.last) (length u.ops) =
         subst (λ ls. Rises 0 ls (length u.ops)) (sym labels_are) (subst (λ l. Rises 0 (labels_of t) (length l)) (sym same) (rises_unlabelled 0 (labels_of t) (length t.ops) (omega arith) goes.sound.rises (goes.unlabelled ends_so))) in
-        told rises walks (m.0.on entry entry_fits) after.1
+        walk_told rises walks (m.0.on entry entry_fits) after.1
 
     -- ---- a `do`
 
@@ -202,7 +202,7 @@ module _ (schema : Schema) (sf : schemas.Fits schema) (part : Part) (classes : H
         let rises : Rises 0 (listed u.labels u.last) (length u.ops) = subst (λ ls. Rises 0 ls (length u.ops)) (sym labels_are) (subst (λ n. Rises 0 (labels_of t) n) (sym count) goes.sound.rises) in
         let after = m.1 (Some entry) arrives in
         let walks = by_now now refl after.0 here_is may in
-        told rises (subst (λ l. Walks schema part code 0 l (Some entry) None) (sym (all ∙ ap (λ l. l ++ ops.Done ∷ []) ops_are)) walks) (m.0.on entry entry_fits) after.1
+        walk_told rises (subst (λ l. Walks schema part code 0 l (Some entry) None) (sym (all ∙ ap (λ l. l ++ ops.Done ∷ []) ops_are)) walks) (m.0.on entry entry_fits) after.1
       where
         by_now : (n : Bool) → now ≡ n → After schema sf part code n 0 goes.grown.ops (Some entry) t → At schema part code (length t.ops) ≡ option_map (frame_by code.locals) (here t) → ends_done part ≡ Ok tt
             → Walks schema part code 0 (goes.grown.ops ++ ops.Done ∷ []) (Some entry) None

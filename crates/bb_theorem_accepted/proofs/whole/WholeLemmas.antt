@@ -8,23 +8,23 @@ use Rattle.bb_basis.specs.Results.{map_err}
 use Rattle.bb_code.specs.declared.parts.TheConstants.{LOCAL_LIMIT}
 use Rattle.bb_schema.specs.Schema.{Schema}
 use Rattle.bb_schema.specs.Fits as schemas
-use Rattle.bb_verify_effect.specs.Code.{Code}
-use Rattle.bb_verify_effect.specs.Kind.{Kind}
-use Rattle.bb_verify_effect.specs.Kind.TheVariants as kinds
-use Rattle.bb_verify_effect.specs.Op.{Op}
+use Rattle.bb_code.specs.Code.{Code}
+use Rattle.bb_code.specs.declared.frame.Kind.{Kind}
+use Rattle.bb_code.specs.declared.frame.Kind.TheVariants as kinds
+use Rattle.bb_code.specs.declared.op.Op.{Op}
 use Rattle.bb_compile_scope.specs.LocalKinds.{is_free, kind_at, all_free}
 use Rattle.bb_compile_scope.specs.Place.{Place}
 use Rattle.bb_compile_scope.specs.declared.scope.Scope.{Scope}
 use Rattle.bb_compile_scope.specs.Scope.{of_unit, of_event, begin_with}
 use Rattle.bb_compile_scope.proofs.Laws.{at_other}
 use Rattle.bb_compile_buffer.specs.Finish.{empty_buffer, frames_of as declared_of}
-use Rattle.bb_verify.specs.Each.{each}
-use Rattle.bb_verify.specs.Flaws.{fault_at}
-use Rattle.bb_verify.specs.VerifyFault.{VerifyFault}
-use Rattle.bb_verify.specs.Part.{units_of}
-use Rattle.bb_verify.specs.PartType.{Part}
-use Rattle.bb_verify.specs.PartType.TheVariants.{Require, Obviate, Retrigger, Revalidate, Do}
-use Rattle.bb_verify.specs.FrameType.{Frame}
+use Rattle.bb_code.specs.Each.{each}
+use Rattle.bb_code.specs.Flaws.{fault_at}
+use Rattle.bb_code.specs.declared.flaw.VerifyFault.{VerifyFault}
+use Rattle.bb_verify_effect.specs.Part.{units_of}
+use Rattle.bb_verify_effect.specs.declared.part.Part.{Part}
+use Rattle.bb_verify_effect.specs.declared.part.Part.TheVariants.{Require, Obviate, Retrigger, Revalidate, Do}
+use Rattle.bb_verify_effect.specs.declared.frame.Frame.{Frame}
 use Rattle.bb_verify.specs.Accepted.{accepted, checked}
 use Rattle.bb_verify.specs.nesting.Jumps.{check_target, jump_at, jumps}
 use Rattle.bb_verify.specs.nesting.Loops.{loops}

@@ -6,11 +6,11 @@ use Rattle.bb_code.specs.declared.op.Calculation.TheVariants as calculations
 use Rattle.bb_code.specs.declared.op.Comparison.TheVariants as comparisons
 use Rattle.bb_code.specs.declared.parts.TheConstants.{TEXT_BYTES_LIMIT}
 use Rattle.bb_code.specs.declared.op.Logic.TheVariants as logics
-use Rattle.bb_verify_effect.specs.Kind.{Kind}
-use Rattle.bb_verify_effect.specs.Kind.TheVariants as kinds
-use Rattle.bb_verify_effect.specs.Op.{Op}
-use Rattle.bb_verify_effect.specs.Op.TheVariants as put_ops
-use Rattle.bb_verify_effect.specs.Schema.{Schema, label_set_named, label_named}
+use Rattle.bb_code.specs.declared.frame.Kind.{Kind}
+use Rattle.bb_code.specs.declared.frame.Kind.TheVariants as kinds
+use Rattle.bb_code.specs.declared.op.Op.{Op}
+use Rattle.bb_code.specs.declared.op.Op.TheVariants as put_ops
+use Rattle.bb_schema.specs.Schema.{Schema, label_set_named, label_named}
 use Rattle.bb_lang.specs.Atom.{Atom}
 use Rattle.bb_lang.specs.Atom.TheVariants as atoms
 use Rattle.bb_lang.specs.Binary.{Binary}

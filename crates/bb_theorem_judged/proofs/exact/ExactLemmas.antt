@@ -6,7 +6,7 @@ use Rattle.std.specs.Str.{bytes_eq}
 use Rattle.bb_basis.specs.Results.{◌>>=◌}
 use Rattle.bb_basis.proofs.PositionLemmas.{position_spot, spot_none}
 use Rattle.bb_code.specs.declared.parts.TheConstants.{OP_LIMIT, TEXT_COUNT_LIMIT, QUERY_LIMIT, LOOP_LIMIT}
-use Rattle.bb_verify_effect.specs.Op.{Op}
+use Rattle.bb_code.specs.declared.op.Op.{Op}
 use Rattle.bb_verify_effect.specs.Query.{Query}
 use Rattle.bb_compile_scope.specs.Place.{Place}
 use Rattle.bb_compile_scope.specs.declared.fault.CompileFault.{CompileFault}
@@ -77,9 +77,9 @@ exact_last a s t u one two =
       loops_are = omega (arith, l, m);
     }
 
-behind : {X : Type 0} (out : X → Buffer) (Q : X → Type 0) (a b : Sums) (s t : Buffer) (r : Result X CompileFault) → (Clean t → Exact a s t) → Counted out Q b t r → Counted out Q (plus a b) s r
-behind out Q a b s t (Err fault) one h = tt
-behind out Q a b s t (Ok x) one h = (λ clean. let two = h.0 clean in exact_on a b s t (out x) (one two.clean) two, h.1)
+counted_after : {X : Type 0} (out : X → Buffer) (Q : X → Type 0) (a b : Sums) (s t : Buffer) (r : Result X CompileFault) → (Clean t → Exact a s t) → Counted out Q b t r → Counted out Q (plus a b) s r
+counted_after out Q a b s t (Err fault) one h = tt
+counted_after out Q a b s t (Ok x) one h = (λ clean. let two = h.0 clean in exact_on a b s t (out x) (one two.clean) two, h.1)
 
 last_behind : {X : Type 0} (out : X → Buffer) (Q : X → Type 0) (a : Sums) (s t : Buffer) (r : Result X CompileFault) → (Clean t → Exact a s t) → Counted out Q nothing t r → Counted out Q a s r
 last_behind out Q a s t (Err fault) one h = tt
@@ -88,7 +88,7 @@ last_behind out Q a s t (Ok x) one h = (λ clean. let two = h.0 clean in exact_l
 pub counted_then : {X Z : Type 0} (one : X → Buffer) (two : Z → Buffer) (P : X → Type 0) (Q : Z → Type 0) (a b : Sums) (s : Buffer) (r : Result X CompileFault) (f : X → Result Z CompileFault)
     → Counted one P a s r → ((x : X) → P x → Counted two Q b (one x) (f x)) → Counted two Q (plus a b) s (r >>= f)
 counted_then one two P Q a b s (Err fault) f h next = tt
-counted_then one two P Q a b s (Ok x) f h next = behind two Q a b s (one x) (f x) h.0 (next x h.1)
+counted_then one two P Q a b s (Ok x) f h next = counted_after two Q a b s (one x) (f x) h.0 (next x h.1)
 
 -- the second adds nothing
 pub counted_last : {X Z : Type 0} (one : X → Buffer) (two : Z → Buffer) (P : X → Type 0) (Q : Z → Type 0) (a : Sums) (s : Buffer) (r : Result X CompileFault) (f : X → Result Z CompileFault)
@@ -100,7 +100,7 @@ counted_last one two P Q a s (Ok x) f h next = last_behind two Q a s (one x) (f 
 pub counted_knowing : {X Z : Type 0} (one : X → Buffer) (two : Z → Buffer) (P : X → Type 0) (Q : Z → Type 0) (a b : Sums) (s : Buffer) (r : Result X CompileFault) (f : X → Result Z CompileFault)
     → Counted one P a s r → ((x : X) → P x → (Clean (one x) → Clean s) → Counted two Q b (one x) (f x)) → Counted two Q (plus a b) s (r >>= f)
 counted_knowing one two P Q a b s (Err fault) f h next = tt
-counted_knowing one two P Q a b s (Ok x) f h next = behind two Q a b s (one x) (f x) h.0 (next x h.1 (λ clean. (h.0 clean).clean))
+counted_knowing one two P Q a b s (Ok x) f h next = counted_after two Q a b s (one x) (f x) h.0 (next x h.1 (λ clean. (h.0 clean).clean))
 
 -- what was made before is there, unless something was noted since
 pub unless_on : {X : Type 0} (made : Option X) (s t : Buffer) → (Clean t → Clean s) → Unless made s → Unless made t
@@ -203,13 +203,13 @@ flawed P a flaw s x p = (λ clean. never flaw s clean, p)
 pub counted_known : {X Z : Type 0} (place : Place) (R : X → Type 0) (one : X → Buffer) (two : Z → Buffer) (P : X → Type 0) (Q : Z → Type 0) (a b : Sums) (s : Buffer) (r : Result X CompileFault) (f : X → Result Z CompileFault)
     → Holds R place r → Counted one P a s r → ((x : X) → R x → P x → Counted two Q b (one x) (f x)) → Counted two Q (plus a b) s (r >>= f)
 counted_known place R one two P Q a b s (Err fault) f known h next = tt
-counted_known place R one two P Q a b s (Ok x) f known h next = behind two Q a b s (one x) (f x) h.0 (next x known h.1)
+counted_known place R one two P Q a b s (Ok x) f known h next = counted_after two Q a b s (one x) (f x) h.0 (next x known h.1)
 
 -- the second knows that the first agrees with the judgement
 pub counted_agreeing : {X Z : Type 0} (place : Place) (faults : List CompileFault) (R : X → Type 0) (one : X → Buffer) (two : Z → Buffer) (P : X → Type 0) (Q : Z → Type 0) (a b : Sums) (s : Buffer) (r : Result X CompileFault) (f : X → Result Z CompileFault)
     → Agrees place faults R r → Counted one P a s r → ((x : X) → R x → P x → Counted two Q b (one x) (f x)) → Counted two Q (plus a b) s (r >>= f)
 counted_agreeing place faults R one two P Q a b s (Err fault) f agrees h next = tt
-counted_agreeing place faults R one two P Q a b s (Ok x) f agrees h next = behind two Q a b s (one x) (f x) h.0 (next x agrees.1 h.1)
+counted_agreeing place faults R one two P Q a b s (Ok x) f agrees h next = counted_after two Q a b s (one x) (f x) h.0 (next x agrees.1 h.1)
 
 -- nothing is laid out
 pub exact_same : (s t : Buffer) → Counts s t → (Clean t → Clean s) → Clean t → Exact nothing s t

@@ -7,9 +7,9 @@ use Rattle.bb_basis.specs.Results.{◌>>=◌}
 use Rattle.bb_basis.proofs.BoolLemmas.{and_first, and_second}
 use Rattle.bb_code.specs.declared.parts.TheConstants.{LOCAL_LIMIT, TEXT_COUNT_LIMIT, QUERY_LIMIT, FRAME_LIMIT, LOOP_LIMIT, OP_LIMIT}
 use Rattle.bb_code.specs.Code.{Code}
-use Rattle.bb_verify_effect.specs.Op.TheVariants.{Done}
+use Rattle.bb_code.specs.declared.op.Op.TheVariants.{Done}
 use Rattle.bb_verify_effect.specs.Part.{ends_done}
-use Rattle.bb_verify_effect.specs.Schema.{Schema}
+use Rattle.bb_schema.specs.Schema.{Schema}
 use Rattle.bb_verify_effect.specs.declared.part.Part.{Part}
 use Rattle.bb_lang.specs.Blocks.{BlockTree}
 use Rattle.bb_compile_scope.specs.Place.{Place}

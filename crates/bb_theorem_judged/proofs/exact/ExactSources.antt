@@ -8,7 +8,7 @@ use Rattle.bb_basis.proofs.BoolLemmas.{and_first, and_second}
 use Rattle.bb_basis.proofs.ResultLemmas.{bind_ok, ok_or_ok}
 use Rattle.bb_code.specs.Code.{Code}
 use Rattle.bb_schema.specs.Fits.{Fits}
-use Rattle.bb_verify_effect.specs.Schema.{Schema, class_named}
+use Rattle.bb_schema.specs.Schema.{Schema, class_named}
 use Rattle.bb_verify_effect.specs.declared.part.Part.{Part}
 use Rattle.bb_verify_effect.specs.declared.part.Part.TheVariants.{Require, Obviate, Retrigger, Revalidate, Do}
 use Rattle.bb_lang.specs.ActText.{ActText}

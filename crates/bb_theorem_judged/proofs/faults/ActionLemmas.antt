@@ -5,13 +5,13 @@ use Rattle.bb_code.specs.declared.parts.TheConstants.{STACK_LIMIT, SAID_LIMIT}
 use Rattle.bb_code.specs.declared.op.LinkChange.{LinkChange}
 use Rattle.bb_code.specs.declared.op.LinkChange.TheVariants as changes
 use Rattle.bb_schema_classes.specs.declared.kind.Link.{Link}
-use Rattle.bb_verify_effect.specs.Kind.{Kind}
-use Rattle.bb_verify_effect.specs.Kind.TheVariants as kinds
-use Rattle.bb_verify_effect.specs.Op.{Op}
-use Rattle.bb_verify_effect.specs.Op.TheVariants as ops
+use Rattle.bb_code.specs.declared.frame.Kind.{Kind}
+use Rattle.bb_code.specs.declared.frame.Kind.TheVariants as kinds
+use Rattle.bb_code.specs.declared.op.Op.{Op}
+use Rattle.bb_code.specs.declared.op.Op.TheVariants as ops
 use Rattle.bb_verify_effect.specs.Part.{writes, ends_rated, ends_answered}
-use Rattle.bb_verify_effect.specs.Schema.{Schema, class_named, space_named, descends}
-use Rattle.bb_verify_effect.specs.Spaces.{allowed}
+use Rattle.bb_schema.specs.Schema.{Schema, class_named, space_named, descends}
+use Rattle.bb_schema.specs.Spaces.{allowed}
 use Rattle.bb_verify_effect.specs.declared.part.Part.{Part}
 use Rattle.bb_lang.specs.Action.{Action}
 use Rattle.bb_lang.specs.Action.TheVariants as actions
@@ -160,8 +160,8 @@ module _ (schema : Schema) (scope : Scope) (place : Place) where
   -- ---- all of them
 
   module _ (tidy : Tidy scope) where
-    stays : (flaw : Option TextFlaw) (r : Result Buffer CompileFault) → Holds (Keeps scope place flaw) place r → Holds (Moves place scope names flaw) place r
-    stays flaw r h = holds_map place (Keeps scope place flaw) (Moves place scope names flaw) r (stay_moves place scope tidy flaw) h
+    keeps_moves : (flaw : Option TextFlaw) (r : Result Buffer CompileFault) → Holds (Keeps scope place flaw) place r → Holds (Moves place scope names flaw) place r
+    keeps_moves flaw r h = holds_map place (Keeps scope place flaw) (Moves place scope names flaw) r (stay_moves place scope tidy flaw) h
 
     let_judged : (name : List ℕ) (value : ExprTree) (s : Buffer) (seen : Option TextFlaw) → Keeps scope place seen s
         → Holds (Moves place scope (after_let name (expr_kind schema names value) names) (least seen (expr_flaws schema names STACK_LIMIT value))) place (let_code schema name value s)
@@ -203,7 +203,7 @@ module _ (schema : Schema) (scope : Scope) (place : Place) where
         → Holds (Moves place scope names (least seen (end_flaws right ++ value_flaws schema names value wanted))) place (end_code schema value wanted op (end_noted right s))
     ended right value wanted op s seen k =
         first_noted place (Moves place scope names) seen (end_flaws right) (value_flaws schema names value wanted) (end_code schema value wanted op (end_noted right s))
-        (stays (least (least seen (end_flaws right)) (value_flaws schema names value wanted)) (end_code schema value wanted op (end_noted right s))
+        (keeps_moves (least (least seen (end_flaws right)) (value_flaws schema names value wanted)) (end_code schema value wanted op (end_noted right s))
         (end_keeps value wanted op (end_noted right s) (least seen (end_flaws right)) (noted_unless scope place right NoEnd s seen k)))
 
     pub action_judged : (part : Part) (a : Action) (s : Buffer) (seen : Option TextFlaw) → Keeps scope place seen s → Holds (Moves place scope (after_action schema names a) (least seen (action_flaws schema part names a))) place (action_code schema part a s)
@@ -212,20 +212,20 @@ module _ (schema : Schema) (scope : Scope) (place : Place) where
     action_judged part (actions.Assign name value) s seen k = assign_judged name value s seen k
     action_judged part (actions.New name class) s seen k = changed part (actions.New name class) s seen k (λ t flaw kept. new_moves place scope tidy name (class_named schema class) t flaw kept)
     action_judged part (actions.Set unit slot value) s seen k =
-        changed part (actions.Set unit slot value) s seen k (λ t flaw kept. stays (least flaw (change_flaws schema names (actions.Set unit slot value))) (set_code schema unit slot value t) (set_keeps unit slot value t flaw kept))
+        changed part (actions.Set unit slot value) s seen k (λ t flaw kept. keeps_moves (least flaw (change_flaws schema names (actions.Set unit slot value))) (set_code schema unit slot value t) (set_keeps unit slot value t flaw kept))
     action_judged part (actions.Link unit slot other) s seen k =
-        changed part (actions.Link unit slot other) s seen k (λ t flaw kept. stays (least flaw (change_flaws schema names (actions.Link unit slot other))) (relink_code schema changes.Link unit slot other t) (relink_keeps changes.Link unit slot other t flaw kept))
+        changed part (actions.Link unit slot other) s seen k (λ t flaw kept. keeps_moves (least flaw (change_flaws schema names (actions.Link unit slot other))) (relink_code schema changes.Link unit slot other t) (relink_keeps changes.Link unit slot other t flaw kept))
     action_judged part (actions.Unlink unit slot other) s seen k =
-        changed part (actions.Unlink unit slot other) s seen k (λ t flaw kept. stays (least flaw (change_flaws schema names (actions.Unlink unit slot other))) (relink_code schema changes.Unlink unit slot other t) (relink_keeps changes.Unlink unit slot other t flaw kept))
+        changed part (actions.Unlink unit slot other) s seen k (λ t flaw kept. keeps_moves (least flaw (change_flaws schema names (actions.Unlink unit slot other))) (relink_code schema changes.Unlink unit slot other t) (relink_keeps changes.Unlink unit slot other t flaw kept))
     action_judged part (actions.Enter unit space) s seen k =
-        changed part (actions.Enter unit space) s seen k (λ t flaw kept. stays (least flaw (change_flaws schema names (actions.Enter unit space))) (enter_code schema unit space t) (enter_keeps unit space t flaw kept))
+        changed part (actions.Enter unit space) s seen k (λ t flaw kept. keeps_moves (least flaw (change_flaws schema names (actions.Enter unit space))) (enter_code schema unit space t) (enter_keeps unit space t flaw kept))
     action_judged part (actions.Leave unit space) s seen k =
-        changed part (actions.Leave unit space) s seen k (λ t flaw kept. stays (least flaw (change_flaws schema names (actions.Leave unit space))) (leave_code schema unit space t) (leave_keeps unit space t flaw kept))
+        changed part (actions.Leave unit space) s seen k (λ t flaw kept. keeps_moves (least flaw (change_flaws schema names (actions.Leave unit space))) (leave_code schema unit space t) (leave_keeps unit space t flaw kept))
     action_judged part (actions.Delete unit) s seen k = changed part (actions.Delete unit) s seen k (λ t flaw kept. delete_judged unit t flaw kept)
     action_judged part (actions.Say values) s seen k =
-        changed part (actions.Say values) s seen k (λ t flaw kept. stays (least flaw (change_flaws schema names (actions.Say values))) (say_code schema values t) (say_keeps values t flaw kept))
+        changed part (actions.Say values) s seen k (λ t flaw kept. keeps_moves (least flaw (change_flaws schema names (actions.Say values))) (say_code schema values t) (say_keeps values t flaw kept))
     action_judged part (actions.Rate value) s seen k = ended (is_ok (ends_rated part)) value kinds.Int ops.Rate s seen k
     action_judged part actions.Decline s seen k =
-        stays (least seen (end_flaws (is_ok (ends_rated part)))) (put ops.Decline (end_noted (is_ok (ends_rated part)) s))
+        keeps_moves (least seen (end_flaws (is_ok (ends_rated part)))) (put ops.Decline (end_noted (is_ok (ends_rated part)) s))
         (put_keeps scope place ops.Decline (end_noted (is_ok (ends_rated part)) s) (least seen (end_flaws (is_ok (ends_rated part)))) (noted_unless scope place (is_ok (ends_rated part)) NoEnd s seen k))
     action_judged part (actions.Answer value) s seen k = ended (is_ok (ends_answered part)) value kinds.Bool ops.Answer s seen k

@@ -4,9 +4,9 @@ use Rattle.std.specs.Prelude.{◌==◌}
 use Rattle.std.specs.Option.{ok_or}
 use Rattle.bb_basis.specs.Results.{◌>>=◌}
 use Rattle.bb_code.specs.declared.parts.TheConstants.{STACK_LIMIT}
-use Rattle.bb_verify_effect.specs.Kind.TheVariants as kinds
-use Rattle.bb_verify_effect.specs.Op.TheVariants as ops
-use Rattle.bb_verify_effect.specs.Schema.{Schema}
+use Rattle.bb_code.specs.declared.frame.Kind.TheVariants as kinds
+use Rattle.bb_code.specs.declared.op.Op.TheVariants as ops
+use Rattle.bb_schema.specs.Schema.{Schema}
 use Rattle.bb_verify_effect.specs.declared.part.Part.{Part}
 use Rattle.bb_lang.specs.Action.{Action}
 use Rattle.bb_lang.specs.Binding.{Binding}
@@ -123,11 +123,11 @@ module _ (schema : Schema) (part : Part) (place : Place) where
       → Agrees place (statements_faults schema part loops ended (names_of scope) b) (Leaves place scope (after_statements schema (names_of scope) b) (ended || block_ends b)) (statements_code schema part loops ended b s)
 
   -- a block after another scope, whose names it forgets
-  pub behind : (scope : Scope) (tidy : Tidy scope) (inner : Names) (loops : ℕ) (b : BlockTree) (t : Buffer) → Moves place scope inner None t → IsGone loops false b
+  pub block_agrees_after : (scope : Scope) (tidy : Tidy scope) (inner : Names) (loops : ℕ) (b : BlockTree) (t : Buffer) → Moves place scope inner None t → IsGone loops false b
       → Agrees place (statements_faults schema part loops false inner b)
       (λ (r : Bool × Buffer). (r.0 ≡ block_ends b) × Levelled place scope (judged.back_to (names_of scope) (after_statements schema inner b)) (leave (mark_of scope) r.1))
       (statements_code schema part loops false b t >>= left (mark_of t.scope))
-  behind scope tidy inner loops b t m gone =
+  block_agrees_after scope tidy inner loops b t m gone =
       subst (λ names. Agrees place (statements_faults schema part loops false names b)
       (λ (r : Bool × Buffer). (r.0 ≡ block_ends b) × Levelled place scope (judged.back_to (names_of scope) (after_statements schema names b)) (leave (mark_of scope) r.1))
       (statements_code schema part loops false b t >>= left (mark_of t.scope))) m.named
@@ -180,7 +180,7 @@ module _ (schema : Schema) (part : Part) (place : Place) where
       (agrees_then place (statements_faults schema part loops false inner first) (otherwise_faults schema part loops (names_of scope) other)
       (λ (r : Bool × Buffer). (r.0 ≡ block_ends first) × Levelled place scope one (leave (mark_of scope) r.1))
       (Leaves place scope (after_branches schema (names_of scope) (block_ends first) one other) (block_ends first && otherwise_ends other))
-      (statements_code schema part loops false first t >>= left (mark_of t.scope)) _ (behind scope tidy inner loops first t m gone)
+      (statements_code schema part loops false first t >>= left (mark_of t.scope)) _ (block_agrees_after scope tidy inner loops first t m gone)
       (λ r l. subst (λ e. Agrees place (otherwise_faults schema part loops (names_of scope) other)
       (Leaves place scope (after_branches schema (names_of scope) e one other) (e && otherwise_ends other))
       (otherwise_code schema part loops (record { before = mark_of scope; exits = exits; ended = r.0 }) other (leave (mark_of scope) r.1))) l.0

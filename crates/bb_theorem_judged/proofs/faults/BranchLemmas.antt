@@ -1,6 +1,6 @@
 -- What is left after blocks and branches: the names with what they hold are those of the judgement.
 use Rattle.std.proofs.Common.{◌≡◌, ℕ, Bool, true, false, cond, Option, Some, None, Ok, refl, subst, sym, ap, ◌∙◌}
-use Rattle.bb_verify_effect.specs.Op.TheVariants as ops
+use Rattle.bb_code.specs.declared.op.Op.TheVariants as ops
 use Rattle.bb_compile_scope.specs.Place.{Place}
 use Rattle.bb_compile_scope.specs.Scope.{mark_of}
 use Rattle.bb_compile_scope.specs.declared.scope.Scope.{Scope}

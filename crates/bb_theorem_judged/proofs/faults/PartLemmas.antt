@@ -3,9 +3,9 @@ use Rattle.std.proofs.Common.{◌≡◌, inl, inr, Bool, true, false, cond, [], 
 use Rattle.std.specs.Prelude.{is_ok}
 use Rattle.bb_basis.specs.Results.{◌>>=◌}
 use Rattle.bb_code.specs.Code.{Code}
-use Rattle.bb_verify_effect.specs.Op.TheVariants.{Done}
+use Rattle.bb_code.specs.declared.op.Op.TheVariants.{Done}
 use Rattle.bb_verify_effect.specs.Part.{ends_done}
-use Rattle.bb_verify_effect.specs.Schema.{Schema}
+use Rattle.bb_schema.specs.Schema.{Schema}
 use Rattle.bb_verify_effect.specs.declared.part.Part.{Part}
 use Rattle.bb_verify_effect.specs.declared.part.Part.TheVariants.{Require, Obviate, Retrigger, Revalidate, Do}
 use Rattle.bb_lang.specs.Blocks.{BlockTree}

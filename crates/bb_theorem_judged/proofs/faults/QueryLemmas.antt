@@ -6,10 +6,10 @@ use Rattle.bb_code.specs.declared.parts.TheConstants.{QUERY_LIMIT}
 use Rattle.bb_code.specs.PatternLimits.{OPERAND_LIMIT}
 use Rattle.bb_code.specs.Trees.{Tree}
 use Rattle.bb_schema_classes.specs.declared.kind.Link.{Link}
-use Rattle.bb_verify_effect.specs.Kind.{Kind}
-use Rattle.bb_verify_effect.specs.Op.TheVariants as ops
+use Rattle.bb_code.specs.declared.frame.Kind.{Kind}
+use Rattle.bb_code.specs.declared.op.Op.TheVariants as ops
 use Rattle.bb_verify_effect.specs.Query.{Query}
-use Rattle.bb_verify_effect.specs.Schema.{Schema}
+use Rattle.bb_schema.specs.Schema.{Schema}
 use Rattle.bb_lang.specs.Relation.{Relation}
 use Rattle.bb_lang.specs.Variable.{Variable}
 use Rattle.bb_compile_scope.specs.Killed.{unless_fault}
@@ -49,8 +49,8 @@ module _ (scope : Scope) (place : Place) where
 
   -- ---- tests
 
-  one_more : (kind : Kind) (asked : Asked) → counts_of (with_operand kind asked) ≡ operand_counted (counts_of asked)
-  one_more kind asked = by_full (nat_le OPERAND_LIMIT (length asked.kinds))
+  operand_counts : (kind : Kind) (asked : Asked) → counts_of (with_operand kind asked) ≡ operand_counted (counts_of asked)
+  operand_counts kind asked = by_full (nat_le OPERAND_LIMIT (length asked.kinds))
     where
       by_full : (b : Bool) → counts_of (cond b asked (record { kinds = asked.kinds ++ operand_kind kind ∷ []; nodes = asked.nodes })) ≡ cond b (counts_of asked) (record { operands = length asked.kinds + 1; nodes = asked.nodes })
       by_full true = refl
@@ -61,7 +61,7 @@ module _ (scope : Scope) (place : Place) where
   by_dimension relation (Some dim) operand asked s seen k =
       let full = operand_flaws (counts_of asked) in
       let kept = noted_if scope place (nat_le OPERAND_LIMIT (length asked.kinds)) Limit (due operand dim.1 s) (least seen (if_other operand dim.1)) (due_keeps scope place operand dim.1 s seen k) in
-      (one_more dim.1 asked, subst (λ flaw. Keeps scope place flaw (operand_noted asked (due operand dim.1 s))) (sym (least_on seen (if_other operand dim.1) full)) kept)
+      (operand_counts dim.1 asked, subst (λ flaw. Keeps scope place flaw (operand_noted asked (due operand dim.1 s))) (sym (least_on seen (if_other operand dim.1) full)) kept)
 
   pub test_judged : (schema : Schema) (space : Option ℕ) (dim : List ℕ) (relation : Relation) (operand : Option Kind) (asked : Asked) (s : Buffer) (seen : Option TextFlaw) → Keeps scope place seen s
       → Asks (test_counted schema space dim relation (counts_of asked)) (least seen (test_flaws schema space dim relation operand (counts_of asked))) (test_code schema space dim relation operand asked s)

@@ -5,8 +5,8 @@ use Rattle.std.specs.Prelude.{◌==◌}
 use Rattle.std.proofs.lemmas.Bool.{leb-true, and_parts}
 use Rattle.bb_basis.specs.Results.{◌>>=◌}
 use Rattle.bb_code.specs.declared.parts.TheConstants.{STACK_LIMIT}
-use Rattle.bb_verify_effect.specs.Kind.TheVariants as kinds
-use Rattle.bb_verify_effect.specs.Schema.{Schema}
+use Rattle.bb_code.specs.declared.frame.Kind.TheVariants as kinds
+use Rattle.bb_schema.specs.Schema.{Schema}
 use Rattle.bb_verify_effect.specs.declared.part.Part.{Part}
 use Rattle.bb_lang.specs.Action.{Action}
 use Rattle.bb_lang.specs.Blocks.{BlockTree, StatementTree, OtherwiseTree, no_statement, before_others, action, if_of, with_of, for_of, absent, otherwise}
@@ -35,7 +35,7 @@ use Rattle.bb_theorem_judged.specs.Names as judged
 use Rattle.bb_theorem_judged.specs.Statements.{binding_flaws, bound, looped, in_loop, after_statement, after_statements, statement_faults, otherwise_faults, statements_faults}
 use Rattle.bb_theorem_judged.specs.Sums.{Sums, plus, nothing, ops, one_loop, expr_sums, sequence_sums, action_sums, binding_sums, statement_sums, otherwise_sums, statements_sums, has_room, action_has_room, statement_has_room, otherwise_has_room, statements_have_room}
 use Rattle.bb_theorem_judged.proofs.faults.ActionLemmas.{action_judged}
-use Rattle.bb_theorem_judged.proofs.faults.BlockLemmas.{seen_if, noted_before, if_agrees, with_agrees, behind, statement_agrees, block_agrees}
+use Rattle.bb_theorem_judged.proofs.faults.BlockLemmas.{seen_if, noted_before, if_agrees, with_agrees, block_agrees_after, statement_agrees, block_agrees}
 use Rattle.bb_theorem_judged.proofs.faults.BranchLemmas.{Levelled, Leaves, else_keeps}
 use Rattle.bb_theorem_judged.proofs.scopes.HoldLemmas.{least_on, Keeps, noted_if}
 use Rattle.bb_theorem_judged.proofs.scopes.KilledLemmas.{start_comes}
@@ -107,7 +107,7 @@ module _ (schema : Schema) (part : Part) (place : Place) where
       let one = judged.back_to (names_of scope) (after_statements schema inner first) in
       subst (λ (c : Scope). Gives second (plus (statements_sums schema inner first) (otherwise_sums schema (names_of scope) (block_ends first) other)) t (faults ++ others) ((statements_code schema part loops false first t >>= left (mark_of t.scope)) >>= λ r. otherwise_code schema part loops (record { before = mark_of c; exits = exits; ended = r.0 }) other (leave (mark_of c) r.1))) (sym same)
       (gives_agreeing place faults others (λ (r : Bool × Buffer). (r.0 ≡ block_ends first) × Levelled place scope one (leave (mark_of scope) r.1)) second second (statements_sums schema inner first) (otherwise_sums schema (names_of scope) (block_ends first) other) t (statements_code schema part loops false first t >>= left (mark_of t.scope)) _
-      (behind schema part place scope tidy inner loops first t m (block_agrees schema part place first loops false))
+      (block_agrees_after schema part place scope tidy inner loops first t m (block_agrees schema part place first loops false))
       (left_gives inner loops first t m.onto.tidy m.begun m.flawed m.named roomy some)
       (λ r l. gives_from second (otherwise_sums schema (names_of scope) (block_ends first) other) r.1 (leave (mark_of scope) r.1) others (otherwise_code schema part loops (record { before = mark_of scope; exits = exits; ended = r.0 }) other (leave (mark_of scope) r.1)) (leave_counts (mark_of scope) r.1)
       (subst (λ e. Gives second (otherwise_sums schema (names_of scope) e other) (leave (mark_of scope) r.1) others (otherwise_code schema part loops (record { before = mark_of scope; exits = exits; ended = r.0 }) other (leave (mark_of scope) r.1))) l.0

@@ -5,11 +5,11 @@ use Rattle.std.specs.Option.{ok_or}
 use Rattle.bb_basis.proofs.PositionLemmas.{position_spot}
 use Rattle.bb_basis.specs.Results.{◌>>=◌}
 use Rattle.bb_code.specs.declared.parts.TheConstants.{STACK_LIMIT}
-use Rattle.bb_verify_effect.specs.Kind.{Kind}
-use Rattle.bb_verify_effect.specs.Kind.TheVariants as kinds
-use Rattle.bb_verify_effect.specs.Op.{Op}
-use Rattle.bb_verify_effect.specs.Op.TheVariants as put_ops
-use Rattle.bb_verify_effect.specs.Schema.{Schema, class_named}
+use Rattle.bb_code.specs.declared.frame.Kind.{Kind}
+use Rattle.bb_code.specs.declared.frame.Kind.TheVariants as kinds
+use Rattle.bb_code.specs.declared.op.Op.{Op}
+use Rattle.bb_code.specs.declared.op.Op.TheVariants as put_ops
+use Rattle.bb_schema.specs.Schema.{Schema, class_named}
 use Rattle.bb_lang.specs.Binding.{Binding}
 use Rattle.bb_lang.specs.Binding.TheVariants as bindings
 use Rattle.bb_lang.specs.Sequence.{Sequence}

@@ -3,9 +3,9 @@ use Rattle.std.proofs.Common.{◌≡◌, ℕ, Bool, true, false, cond, List, [],
 use Rattle.std.specs.Prelude.{nat_le, ◌==◌}
 use Rattle.bb_basis.specs.Results.{◌>>=◌}
 use Rattle.bb_code.specs.declared.parts.TheConstants.{OP_LIMIT}
-use Rattle.bb_verify_effect.specs.Kind.{Kind}
+use Rattle.bb_code.specs.declared.frame.Kind.{Kind}
 use Rattle.bb_verify_effect.specs.Kinds.{is_same_plain}
-use Rattle.bb_verify_effect.specs.Op.{Op}
+use Rattle.bb_code.specs.declared.op.Op.{Op}
 use Rattle.bb_compile_scope.specs.Faults.{lowest}
 use Rattle.bb_compile_scope.specs.Place.{Place}
 use Rattle.bb_compile_scope.specs.declared.fault.CompileFault.{CompileFault}

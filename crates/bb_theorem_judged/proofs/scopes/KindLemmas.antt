@@ -5,10 +5,10 @@ use Rattle.std.specs.Str.{bytes_eq}
 use Rattle.bb_basis.specs.Results.{◌>>=◌}
 use Rattle.bb_schema_classes.specs.declared.kind.Kind.{Kind as SlotKind}
 use Rattle.bb_schema_classes.specs.declared.kind.Kind.TheVariants as held
-use Rattle.bb_verify_effect.specs.Kind.{Kind}
-use Rattle.bb_verify_effect.specs.Kind.TheVariants as kinds
+use Rattle.bb_code.specs.declared.frame.Kind.{Kind}
+use Rattle.bb_code.specs.declared.frame.Kind.TheVariants as kinds
 use Rattle.bb_verify_effect.specs.Kinds.{is_same_plain}
-use Rattle.bb_verify_effect.specs.Schema.{Schema, descends, label_set_named}
+use Rattle.bb_schema.specs.Schema.{Schema, descends, label_set_named}
 use Rattle.bb_lang.specs.Atom.{Atom}
 use Rattle.bb_lang.specs.Atom.TheVariants as atoms
 use Rattle.bb_lang.specs.Binary.{Binary}

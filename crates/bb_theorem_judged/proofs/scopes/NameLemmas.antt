@@ -2,7 +2,7 @@
 use Rattle.std.proofs.Common.{◌≡◌, ℕ, Bool, true, false, cond, List, [], ◌∷◌, map, Some, refl}
 use Rattle.std.specs.Prelude.{find, option_map}
 use Rattle.std.specs.Str.{bytes_eq}
-use Rattle.bb_verify_effect.specs.Kind.{Kind}
+use Rattle.bb_code.specs.declared.frame.Kind.{Kind}
 use Rattle.bb_compile_scope.specs.LocalKinds.{kind_at}
 use Rattle.bb_compile_scope.specs.Scope.{local_of}
 use Rattle.bb_compile_scope.specs.declared.scope.NamedLocal.{NamedLocal}

@@ -6,10 +6,10 @@ use Rattle.std.specs.Str.{bytes_eq}
 use Rattle.std.proofs.Math.Seq.{take-append_seam}
 use Rattle.std.proofs.lemmas.List.{append-nil, length-set}
 use Rattle.bb_basis.proofs.PositionLemmas.{position_within}
-use Rattle.bb_verify_effect.specs.Kind.{Kind}
-use Rattle.bb_verify_effect.specs.Kind.TheVariants as kinds
+use Rattle.bb_code.specs.declared.frame.Kind.{Kind}
+use Rattle.bb_code.specs.declared.frame.Kind.TheVariants as kinds
 use Rattle.bb_verify_effect.specs.Kinds.{struck}
-use Rattle.bb_verify_effect.specs.Schema.{Schema}
+use Rattle.bb_schema.specs.Schema.{Schema}
 use Rattle.bb_compile_scope.specs.LocalKinds.{is_free, kind_at, left_kind, kinds_left, met_kind, kinds_met}
 use Rattle.bb_compile_scope.specs.Scope.{local_of, mark_of, back_to}
 use Rattle.bb_compile_scope.specs.declared.scope.NamedLocal.{NamedLocal}

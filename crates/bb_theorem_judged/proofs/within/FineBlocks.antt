@@ -3,7 +3,7 @@ use Rattle.std.proofs.Common.{◌≡◌, ℕ, ◌-◌, Bool, true, false, ◌&&�
 use Rattle.bb_basis.specs.Results.{◌>>=◌}
 use Rattle.bb_basis.proofs.BoolLemmas.{and_first, and_second}
 use Rattle.bb_schema.specs.Fits.{Fits}
-use Rattle.bb_verify_effect.specs.Schema.{Schema}
+use Rattle.bb_schema.specs.Schema.{Schema}
 use Rattle.bb_verify_effect.specs.declared.part.Part.{Part}
 use Rattle.bb_lang.specs.Action.{Action}
 use Rattle.bb_lang.specs.Blocks.{BlockTree, StatementTree, OtherwiseTree, no_statement, before_others, action, if_of, with_of, for_of, absent, otherwise}

@@ -2,8 +2,8 @@
 use Rattle.std.proofs.Common.{◌≡◌, ℕ, ◌+◌, ◌≤◌, ◌<◌, true, List, Option, Some, None, refl, arith}
 use Rattle.std.specs.Prelude.{max, set, position}
 use Rattle.bb_code.specs.declared.parts.TheConstants.{LOCAL_LIMIT}
-use Rattle.bb_verify_effect.specs.Kind.{Kind}
-use Rattle.bb_verify_effect.specs.Op.TheVariants as ops
+use Rattle.bb_code.specs.declared.frame.Kind.{Kind}
+use Rattle.bb_code.specs.declared.op.Op.TheVariants as ops
 use Rattle.bb_compile_scope.specs.LocalKinds.{is_free}
 use Rattle.bb_compile_scope.specs.Scope.{with_name}
 use Rattle.bb_compile_scope.specs.declared.scope.Scope.{Scope}

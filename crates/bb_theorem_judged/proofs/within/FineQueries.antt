@@ -10,11 +10,11 @@ use Rattle.bb_code.specs.Trees.{Tree, Trees, node_count, nodes_count}
 use Rattle.bb_code.specs.Trees as nodes
 use Rattle.bb_schema.specs.Fits.{Fits}
 use Rattle.bb_schema_classes.specs.declared.kind.Link.{Link}
-use Rattle.bb_verify_effect.specs.Kind.{Kind}
-use Rattle.bb_verify_effect.specs.Kind.TheVariants as kinds
-use Rattle.bb_verify_effect.specs.Op.TheVariants as put_ops
+use Rattle.bb_code.specs.declared.frame.Kind.{Kind}
+use Rattle.bb_code.specs.declared.frame.Kind.TheVariants as kinds
+use Rattle.bb_code.specs.declared.op.Op.TheVariants as put_ops
 use Rattle.bb_verify_effect.specs.Query.{Query}
-use Rattle.bb_verify_effect.specs.Schema.{Schema, class_named, space_named}
+use Rattle.bb_schema.specs.Schema.{Schema, class_named, space_named}
 use Rattle.bb_lang.specs.Relation.{Relation}
 use Rattle.bb_lang.specs.Relation.TheVariants as relations
 use Rattle.bb_lang.specs.Trees.{ExprTree, Steps, SequenceTree, PatternTree, Patterns, atom, unary, binary, chain, size_of, no_step, apply, divide, found, linked, all, and_of, or_of, not_of, test, no_pattern, more}

@@ -8,10 +8,10 @@ use Rattle.bb_basis.proofs.PositionLemmas.{position_within}
 use Rattle.bb_schema.specs.Fits.{Fits}
 use Rattle.bb_schema.specs.Ownership.{strikes}
 use Rattle.bb_code.specs.declared.parts.TheConstants.{LOCAL_LIMIT}
-use Rattle.bb_verify_effect.specs.Kind.{Kind}
-use Rattle.bb_verify_effect.specs.Kind.TheVariants as kinds
+use Rattle.bb_code.specs.declared.frame.Kind.{Kind}
+use Rattle.bb_code.specs.declared.frame.Kind.TheVariants as kinds
 use Rattle.bb_verify_effect.specs.Kinds.{struck}
-use Rattle.bb_verify_effect.specs.Schema.{Schema, class_named}
+use Rattle.bb_schema.specs.Schema.{Schema, class_named}
 use Rattle.bb_lang.specs.Action.{Action}
 use Rattle.bb_lang.specs.Action.TheVariants as actions
 use Rattle.bb_lang.specs.Atom.TheVariants as atoms
@@ -24,9 +24,8 @@ use Rattle.bb_lang.specs.Trees.{ExprTree, atom, unary, binary, chain, size_of, n
 use Rattle.bb_lang.specs.Variable.{Variable}
 use Rattle.bb_schema_classes.specs.declared.kind.Link.{Link}
 use Rattle.bb_compile_scope.specs.Killed.{unless_fault, unit_kind, declared, unit_class, value_class, sequence_class, bound_name, bound_class, with_old, killed_name, struck_units, killed_action, killed_statement, killed_otherwise, killed_statements, killed_under}
-use Rattle.bb_compile_scope.specs.Kinds.{class_of}
+use Rattle.bb_compile_scope.specs.Kinds.{class_of, is_live}
 use Rattle.bb_compile_scope.specs.LocalKinds.{is_free, kind_at, left_kind, kinds_left, met_kind, kinds_met}
-use Rattle.bb_compile_scope.specs.Kinds.{is_live}
 use Rattle.bb_compile_scope.specs.Scope.{name_of, local_of, kind_of, mark_of, back_to}
 use Rattle.bb_compile_scope.specs.Slots.{link_slot, partner_slot}
 use Rattle.bb_compile_scope.specs.declared.fault.TextFlaw.{TextFlaw}

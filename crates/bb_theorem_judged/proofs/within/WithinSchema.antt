@@ -20,8 +20,8 @@ use Rattle.bb_schema.specs.Fits.{Fits, IsSpace}
 use Rattle.bb_schema.specs.Schema.{Schema, class_named, space_named, label_set_named, label_named, slot_named, kind_of_slot, dims_of}
 use Rattle.bb_schema.specs.declared.space.Dim.{Dim}
 use Rattle.bb_schema.specs.declared.space.Space.{Space}
-use Rattle.bb_verify_effect.specs.Kind.{Kind}
-use Rattle.bb_verify_effect.specs.Kind.TheVariants as kinds
+use Rattle.bb_code.specs.declared.frame.Kind.{Kind}
+use Rattle.bb_code.specs.declared.frame.Kind.TheVariants as kinds
 use Rattle.bb_lang.specs.Relation.{Relation}
 use Rattle.bb_lang.specs.Relation.TheVariants as relations
 use Rattle.bb_compile_scope.specs.Slots.{with_kind, slot_of, value_in, link_in, partner_in, value_slot, link_slot, partner_slot, index_of, in_byte, operand_due, dimension_at, dimension}

@@ -34,8 +34,8 @@ module _ (s : Schema) (w : World) (sf : schemas.Fits s) (fits : Fits s w) (n cla
   no_part c k h true apart part = absurd (let e : true ≡ false = sym (part_is_struck s w sf fits class n gone.own gone.is gone.under k h.own c part h.is h.under) ∙ apart in cc)
   no_part c k h false apart part = refl
 
-  stays : (c k : ℕ) (h : IsOf s w c k) → strikes s class c ≡ false → IsOf s after c k
-  stays c k h apart = record {
+  stays_of_class : (c k : ℕ) (h : IsOf s w c k) → strikes s class c ≡ false → IsOf s after c k
+  stays_of_class c k h apart = record {
     own = h.own;
     is = others_stay s w n k (no_part c k h (list_any (λ x. x == k) (with_parts s w n)) apart refl) ∙ h.is;
     under = h.under;
@@ -43,7 +43,7 @@ module _ (s : Schema) (w : World) (sf : schemas.Fits s) (fits : Fits s w) (n cla
 
   struck_by : (c : ℕ) (x : Value) (strikes_it : Bool) → strikes s class c ≡ strikes_it → HasKind s w (Ref c) x → HasKind s after (if strikes_it then Old c else Ref c) x
   struck_by c x true is has = (has.0, has.1, lasts c has.0 (was_of s w fits.units c has.0 has.2))
-  struck_by c x false is has = (has.0, has.1, stays c has.0 has.2 is)
+  struck_by c x false is has = (has.0, has.1, stays_of_class c has.0 has.2 is)
 
   pub has_struck : (k : Kind) (x : Value) → HasKind s w k x → HasKind s after (struck s class k) x
   unfolding struck

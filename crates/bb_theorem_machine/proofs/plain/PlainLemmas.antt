@@ -67,8 +67,8 @@ check_order : (a b : ℤ) → int_le (int_min a b) (int_max a b) ≡ true
 check_order a b = in_order_by a b (int_lt b a) refl
 
 -- two equations of entries in one of the stack
-both : (m : Machine) (v1 v2 a b : Value) (rest : List Value) → m.stack ≡ v2 ∷ v1 ∷ rest → v1 ≡ a → v2 ≡ b → m.stack ≡ b ∷ a ∷ rest
-both m v1 v2 a b rest is one other = is ∙ (ap (λ (v : Value). v ∷ v1 ∷ rest) other ∙ ap (λ (v : Value). b ∷ v ∷ rest) one)
+stack_of_two : (m : Machine) (v1 v2 a b : Value) (rest : List Value) → m.stack ≡ v2 ∷ v1 ∷ rest → v1 ≡ a → v2 ≡ b → m.stack ≡ b ∷ a ∷ rest
+stack_of_two m v1 v2 a b rest is one other = is ∙ (ap (λ (v : Value). v ∷ v1 ∷ rest) other ∙ ap (λ (v : Value). b ∷ v ∷ rest) one)
 
 alone : (m : Machine) (v a : Value) (rest : List Value) → m.stack ≡ v ∷ rest → v ≡ a → m.stack ≡ a ∷ rest
 alone m v a rest is one = is ∙ ap (λ (u : Value). u ∷ rest) one
@@ -78,7 +78,7 @@ alone m v a rest is one = is ∙ ap (λ (u : Value). u ∷ rest) one
 module _ (s : Schema) (w : World) (m : Machine) (f g : Frame) (suits : Suits s w m f) where
   pub calculate_makes : (c : Calculation) → effects.combine kinds.Int kinds.Int f ≡ Ok g → Makes s w m g (calculate c m)
   calculate_makes c h = combines s w m f g kinds.Int kinds.Int kinds.Int (calculate c m) (combine_ok kinds.Int kinds.Int f g h) suits
-      (λ v1 v2 rest is one other. (Int (calculated c one.0 other.0), (calculated c one.0 other.0, refl, calculated_i64 c one.0 other.0 one.2 other.2), calculate_on c m one.0 other.0 rest (both m v1 v2 (Int one.0) (Int other.0) rest is one.1 other.1)))
+      (λ v1 v2 rest is one other. (Int (calculated c one.0 other.0), (calculated c one.0 other.0, refl, calculated_i64 c one.0 other.0 one.2 other.2), calculate_on c m one.0 other.0 rest (stack_of_two m v1 v2 (Int one.0) (Int other.0) rest is one.1 other.1)))
 
   pub divide_makes : (d : Division) (n : ℤ) → IsDivisor n → effects.turn kinds.Int kinds.Int f ≡ Ok g → Makes s w m g (divide d n m)
   divide_makes d n divisor h = turns s w m f g kinds.Int kinds.Int (divide d n m) (turn_ok kinds.Int kinds.Int f g h) suits
@@ -86,11 +86,11 @@ module _ (s : Schema) (w : World) (m : Machine) (f g : Frame) (suits : Suits s w
 
   pub compare_makes : (c : Comparison) → effects.combine kinds.Int kinds.Bool f ≡ Ok g → Makes s w m g (compare c m)
   compare_makes c h = combines s w m f g kinds.Int kinds.Int kinds.Bool (compare c m) (combine_ok kinds.Int kinds.Bool f g h) suits
-      (λ v1 v2 rest is one other. (Truth (compared c one.0 other.0), (compared c one.0 other.0, refl), compare_on c m one.0 other.0 rest (both m v1 v2 (Int one.0) (Int other.0) rest is one.1 other.1)))
+      (λ v1 v2 rest is one other. (Truth (compared c one.0 other.0), (compared c one.0 other.0, refl), compare_on c m one.0 other.0 rest (stack_of_two m v1 v2 (Int one.0) (Int other.0) rest is one.1 other.1)))
 
   pub eq_text_makes : effects.combine kinds.Text kinds.Bool f ≡ Ok g → Makes s w m g (eq_text m)
   eq_text_makes h = combines s w m f g kinds.Text kinds.Text kinds.Bool (eq_text m) (combine_ok kinds.Text kinds.Bool f g h) suits
-      (λ v1 v2 rest is one other. (Truth (bytes_eq one.0 other.0), (bytes_eq one.0 other.0, refl), eq_text_on m one.0 other.0 rest (both m v1 v2 (Text one.0) (Text other.0) rest is one.1 other.1)))
+      (λ v1 v2 rest is one other. (Truth (bytes_eq one.0 other.0), (bytes_eq one.0 other.0, refl), eq_text_on m one.0 other.0 rest (stack_of_two m v1 v2 (Text one.0) (Text other.0) rest is one.1 other.1)))
 
   pub negate_makes : effects.turn kinds.Bool kinds.Bool f ≡ Ok g → Makes s w m g (negate m)
   negate_makes h = turns s w m f g kinds.Bool kinds.Bool (negate m) (turn_ok kinds.Bool kinds.Bool f g h) suits
@@ -98,11 +98,11 @@ module _ (s : Schema) (w : World) (m : Machine) (f g : Frame) (suits : Suits s w
 
   pub combine_makes : (l : Logic) → effects.combine kinds.Bool kinds.Bool f ≡ Ok g → Makes s w m g (combine l m)
   combine_makes l h = combines s w m f g kinds.Bool kinds.Bool kinds.Bool (combine l m) (combine_ok kinds.Bool kinds.Bool f g h) suits
-      (λ v1 v2 rest is one other. (Truth (combined l one.0 other.0), (combined l one.0 other.0, refl), combine_on l m one.0 other.0 rest (both m v1 v2 (Truth one.0) (Truth other.0) rest is one.1 other.1)))
+      (λ v1 v2 rest is one other. (Truth (combined l one.0 other.0), (combined l one.0 other.0, refl), combine_on l m one.0 other.0 rest (stack_of_two m v1 v2 (Truth one.0) (Truth other.0) rest is one.1 other.1)))
 
   pub make_interval_makes : effects.combine kinds.Int kinds.Interval f ≡ Ok g → Makes s w m g (make_interval m)
   make_interval_makes h = combines s w m f g kinds.Int kinds.Int kinds.Interval (make_interval m) (combine_ok kinds.Int kinds.Interval f g h) suits
-      (λ v1 v2 rest is one other. (Interval (int_min one.0 other.0) (int_max one.0 other.0), (int_min one.0 other.0, int_max one.0 other.0, refl, ordered_i64 one.0 other.0 one.2 other.2 (check_order one.0 other.0)), make_interval_on m one.0 other.0 rest (both m v1 v2 (Int one.0) (Int other.0) rest is one.1 other.1)))
+      (λ v1 v2 rest is one other. (Interval (int_min one.0 other.0) (int_max one.0 other.0), (int_min one.0 other.0, int_max one.0 other.0, refl, ordered_i64 one.0 other.0 one.2 other.2 (check_order one.0 other.0)), make_interval_on m one.0 other.0 rest (stack_of_two m v1 v2 (Int one.0) (Int other.0) rest is one.1 other.1)))
 
   pub bound_makes : (e : Bound) → effects.turn kinds.Interval kinds.Int f ≡ Ok g → Makes s w m g (bound e m)
   bound_makes e h = turns s w m f g kinds.Interval kinds.Int (bound e m) (turn_ok kinds.Interval kinds.Int f g h) suits

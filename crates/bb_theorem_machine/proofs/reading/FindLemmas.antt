@@ -26,8 +26,8 @@ use Rattle.bb_board.specs.Board.{Board}
 use Rattle.bb_board.specs.State.{World}
 use Rattle.bb_code.specs.declared.frame.Kind.{Kind}
 use Rattle.bb_code.specs.declared.frame.Kind.TheVariants.{Interval, Label}
-use Rattle.bb_verify.specs.Flaw.{Flaw}
-use Rattle.bb_verify.specs.Flaw.TheVariants as flaws
+use Rattle.bb_code.specs.declared.flaw.Flaw.{Flaw}
+use Rattle.bb_code.specs.declared.flaw.Flaw.TheVariants as flaws
 use Rattle.bb_verify.specs.Due as dues
 use Rattle.bb_verify.proofs.Laws.{due_ok}
 use Rattle.bb_machine.specs.declared.halt.Halt.{Halt}

@@ -10,8 +10,8 @@ use Rattle.bb_code.specs.Code.{Code}
 use Rattle.bb_code.specs.declared.frame.Loop.{Loop}
 use Rattle.bb_code.specs.declared.op.Op.{Op}
 use Rattle.bb_code.specs.declared.op.Op.TheVariants as ops
-use Rattle.bb_verify.specs.Flaw.{Flaw}
-use Rattle.bb_verify.specs.Each.{each}
+use Rattle.bb_code.specs.declared.flaw.Flaw.{Flaw}
+use Rattle.bb_code.specs.Each.{each}
 use Rattle.bb_verify.specs.nesting.Loops.{holds, check_order, begins, ends, op_before, local_of, local_in, is_same_local, is_around, nests, loop_due, head_due, is_head, is_end, enters_at_head, keeps_local, op_due, place_due}
 use Rattle.bb_verify.proofs.Laws.{check_order_ok, never_ok, nests_ok, LoopDue, loop_due_ok, place_due_ok}
 use Rattle.bb_theorem_machine.specs.proving.StepsLeft.{In}

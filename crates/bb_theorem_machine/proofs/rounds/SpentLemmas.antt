@@ -64,19 +64,19 @@ module _ (s : Schema) (part : Part) (code : Code) (frames : List Frame) (is : Is
     none_more = let left = some_left m.found in ((omega arith, few), omega arith, omega (arith, left))
 
     -- where one was made, and then what is told of the next state
-    one_more : (next : Machine) (r : Result Outcome Stop) → m.found ≤ next.found
+    spends_one_more : (next : Machine) (r : Result Outcome Stop) → m.found ≤ next.found
         → ((found : ℕ) → next.found ≤ found → steps_left code found (left_of code next) next.place < steps_left code found (left_of code m) m.place)
         → Spends code next n (steps + 1) r → Spends code m (suc n) steps r
-    one_more next (Ok o) rises falls told =
+    spends_one_more next (Ok o) rises falls told =
         let low = told.0.0 in let made = told.1 in let lt = falls o.found low in
         ((omega (arith, rises, low), told.0.1), omega (arith, made, lt))
-    one_more next (Err (stops.Full made found)) rises falls told =
+    spends_one_more next (Err (stops.Full made found)) rises falls told =
         let low = told.0.0 in let le = told.1 in let lt = falls found low in
         ((omega (arith, rises, low), told.0.1), omega (arith, le, lt))
-    one_more next (Err (stops.Stuck reason made found)) rises falls told =
+    spends_one_more next (Err (stops.Stuck reason made found)) rises falls told =
         let low = told.0.0 in let all = told.1 in let le = told.2 in let lt = falls found low in
         ((omega (arith, rises, low), told.0.1), omega (arith, all), omega (arith, le, lt))
-    one_more next (Err stops.Memory) rises falls told = tt
+    spends_one_more next (Err stops.Memory) rises falls told = tt
 
     -- what comes of an op
     by_step : (op : Op) (r : Result State Halt) → slice_get code.ops m.place ≡ Some op → Advances s code frames m.place op r → After (Moved op (go_to (m.place + 1) m)) r
@@ -85,7 +85,7 @@ module _ (s : Schema) (part : Part) (code : Code) (frames : List Frame) (is : Is
     by_step op (Ok next) at adv made again =
         let before : AreLow (go_to (m.place + 1) m) = record { locals = low.locals; stack = low.stack } in
         let rises = moved_rises op (go_to (m.place + 1) m) next before made in
-        one_more next.0 (steps_from n (steps + 1) code next).0 rises.found
+        spends_one_more next.0 (steps_from n (steps + 1) code next).0 rises.found
         (λ found le. step_falls code (heads_inside code facts.heads) facts.loops facts.jumps m next.0 found le rises.low op next.1 at made adv.1)
         (again next adv.0 rises.low (rises.few few))
     by_step op (Err (Answered a)) at adv made again = let left = some_left m.found in ((omega arith, few), omega (arith, left))

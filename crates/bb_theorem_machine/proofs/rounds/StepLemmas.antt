@@ -7,7 +7,7 @@ use Rattle.bb_code.specs.Code.{Code}
 use Rattle.bb_code.specs.declared.frame.Loop.{Loop}
 use Rattle.bb_code.specs.declared.op.Op.{Op}
 use Rattle.bb_code.specs.declared.op.Op.TheVariants as ops
-use Rattle.bb_verify.specs.Each.{each}
+use Rattle.bb_code.specs.Each.{each}
 use Rattle.bb_verify.specs.nesting.Jumps.{target_of, ahead, check_target}
 use Rattle.bb_verify.specs.nesting.Loops.{holds, begins, enters_at_head, op_due, place_due}
 use Rattle.bb_verify.proofs.Laws.{before_ok, ahead_ok, place_due_ok}

@@ -1,8 +1,9 @@
 -- How accepted codes are stored as data that can be told apart.
 use Rattle.std.specs.Prelude.{List, refl}
 use Rattle.std.specs.Coded.{Coded, code_by, coded×, coded_list}
-use Rattle.bb_verify_effect.specs.Code.{Code}
-use Rattle.bb_verify_effect.specs.proving.Codes.{parts_code, frame_code, part_code}
+use Rattle.bb_code.specs.Code.{Code}
+use Rattle.bb_code.specs.proving.Codes.{parts_code}
+use Rattle.bb_verify_effect.specs.proving.Codes.{frame_code, part_code}
 use Rattle.bb_verify_effect.specs.declared.frame.Frame.{Frame}
 use Rattle.bb_verify_effect.specs.declared.part.Part.{Part}
 use Rattle.bb_verify.specs.Accepted.{Checked}

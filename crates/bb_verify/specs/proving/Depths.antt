@@ -1,7 +1,7 @@
 -- The places of a code by depth: the number of loops that hold them.
 use Rattle.std.specs.Prelude.{ℕ, ◌+◌, ◌*◌, ◌==◌, List, map, get_or}
 use Rattle.std.specs.List.{range_with_len, sum_by, count_by}
-use Rattle.bb_verify_effect.specs.Code.{Code, places}
+use Rattle.bb_code.specs.Code.{Code, places}
 use Rattle.bb_verify.specs.declared.nesting.loops.TheConstants.{NESTING_LIMIT}
 use Rattle.bb_verify.specs.nesting.Loops.{depth}
 use Rattle.bb_verify.specs.Budget.{turns}

@@ -1,7 +1,7 @@
 -- For each place, the number of the frame that is declared there.
 use Rattle.std.specs.Prelude.{ℕ, List, map, slice_get, Option, None, Some, option_map}
 use Rattle.bb_verify.specs.declared.places.Framed.{Framed}
-use Rattle.bb_verify_effect.specs.FrameEntry.{FrameEntry}
+use Rattle.bb_code.specs.declared.frame.FrameEntry.{FrameEntry}
 use Rattle.bb_verify_effect.specs.declared.frame.Frame.{Frame}
 use Rattle.bb_verify_effect.specs.Frame.{frame_of}
 

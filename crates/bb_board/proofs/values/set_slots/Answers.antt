@@ -1,7 +1,7 @@
 use Rattle.std.proofs.Common.{◌+◌, ◌∙◌, drop, get_or, map}
 use Rattle.std.proofs.lemmas.List.{get_or_default}
 use Rattle.std.proofs.lemmas.Result.{err_from_is_err_and}
-use Rattle.bb_basis.proofs.IntoMapLemmas.{next_one, none_left}
+use Rattle.bb_basis.proofs.IntoMapLemmas.{next_one, length_drop_all}
 use Rattle.bb_basis.proofs.TryFoldLemmas.{try_fold_next, try_fold_error, try_fold_end}
 use Rattle.bb_schema_form.specs.UnitsDocument.{given_declaration}
 use Rattle.bb_board.specs.Load.{slot_after}
@@ -27,4 +27,4 @@ loop-slot-preserved c =
 pub returns-clause-gives : goal.returns-clause-gives
 returns-clause-gives c =
     try_fold_end (slot_after c.args.schema.now c.args.unit (map given_declaration c.args.given.now)) c.loop-slot.board.world (drop c.loop-slot.slot-index c.args.slots.now) _
-    (none_left c.args.slots.now c.loop-slot.slot-index c.loop-slot-test.false) c.loop-slot.invariant.0
+    (length_drop_all c.args.slots.now c.loop-slot.slot-index c.loop-slot-test.false) c.loop-slot.invariant.0

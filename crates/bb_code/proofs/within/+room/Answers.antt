@@ -1,6 +1,6 @@
 use Rattle.std.proofs.Common.{rules, arith, sym, ap, ◌∙◌}
 use Rattle.bb_pattern.specs.View.{tree_of}
-use Rattle.bb_pattern.proofs.Laws.{parts_below_and, parts_below_or, none_left}
+use Rattle.bb_pattern.proofs.Laws.{parts_below_and, parts_below_or, no_room_after}
 use Rattle.bb_code.proofs.within.+room.Goals as goal
 
 pub room_after-rooms_after-requires : goal.room_after-rooms_after-requires
@@ -14,4 +14,4 @@ room_after-rooms_after-requires-in-Or t c =
     (omega (arith, below), tt)
 
 pub room_after-returns-then-room-eq0-clause-left : goal.room_after-returns-then-room-eq0-clause-left
-room_after-returns-then-room-eq0-clause-left t c = none_left c.args.pattern.now c.args.room (search rules)
+room_after-returns-then-room-eq0-clause-left t c = no_room_after c.args.pattern.now c.args.room (search rules)

@@ -1,6 +1,6 @@
 use Rattle.std.proofs.Common.{◌≡◌, ◌+◌, ◌*◌, drop}
-use Rattle.bb_lang.specs.BlockView.{block_of, statement_of, otherwise_of}
-use Rattle.bb_lang.specs.proving.BlockCodes.{block_size}
+use Rattle.bb_lang_tree.specs.BlockView.{block_of, statement_of, otherwise_of}
+use Rattle.bb_lang_tree.specs.proving.BlockCodes.{block_size}
 use Rattle.bb_compile_scope.specs.Killed.{killed_statements}
 use Rattle.bb_compile_scope.specs.proving.Sizes.{statement_size, otherwise_size}
 use Rattle.bb_compile_scope.proofs.killed.+kill.Given as goal

@@ -1,6 +1,6 @@
 use Rattle.std.proofs.Common.{◌≡◌, ◌≤◌, List, length, sym, ap, ◌∙◌, subst}
-use Rattle.bb_lang.specs.Step.{Step}
-use Rattle.bb_lang.specs.View.{expr_of}
+use Rattle.bb_lang_tree.specs.declared.tree.Step.{Step}
+use Rattle.bb_lang_tree.specs.View.{expr_of}
 use Rattle.bb_compile_scope.specs.Killed.{value_class}
 use Rattle.bb_compile_scope.proofs.ChainLemmas.{stepped}
 use Rattle.bb_compile_scope.proofs.killed.+value_class.Goals as goal

@@ -1,5 +1,5 @@
 use Rattle.std.proofs.Common.{get_or, sym, ◌∙◌, arith}
-use Rattle.bb_verify_effect.specs.Kind.TheVariants.{Any}
+use Rattle.bb_code.specs.declared.frame.Kind.TheVariants.{Any}
 use Rattle.bb_compile_scope.specs.LocalKinds.{left_kind}
 use Rattle.bb_compile_scope.proofs.PairLemmas.{pair_next, pair_begin, pair_end}
 use Rattle.bb_compile_scope.proofs.local_kinds.leave_each.Goals as goal

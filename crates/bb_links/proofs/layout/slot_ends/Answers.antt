@@ -9,13 +9,13 @@ use Rattle.bb_schema.specs.Couples.{couples, couple_of}
 use Rattle.bb_links.proofs.layout.slot_ends.Goals as goal
 
 -- one more end
-more : (s : Schema) (made after : List (Option (ℕ × Side))) (n : ℕ) (e : Option (ℕ × Side)) → made ≡ map (couple_of s) (range_with_len 0 n) → e ≡ couple_of s n → after ≡ made ++ e ∷ [] → after ≡ map (couple_of s) (range_with_len 0 (n + 1))
-more s made after n e so_far is new = rw (new, so_far, is) (sym (map-range_with_len_more (couple_of s) 0 n n (omega arith)))
+ends_with_one : (s : Schema) (made after : List (Option (ℕ × Side))) (n : ℕ) (e : Option (ℕ × Side)) → made ≡ map (couple_of s) (range_with_len 0 n) → e ≡ couple_of s n → after ≡ made ++ e ∷ [] → after ≡ map (couple_of s) (range_with_len 0 (n + 1))
+ends_with_one s made after n e so_far is new = rw (new, so_far, is) (sym (map-range_with_len_more (couple_of s) 0 n n (omega arith)))
 
 pub loop-slot-preserved : goal.loop-slot-preserved
 loop-slot-preserved c =
     let s = c.args.schema.now in (
-      more s c.loop-slot.ends.items c.push.new.self.items c.loop-slot.slot c.end_of.result c.loop-slot.invariant.0 c.end_of.ensures.value c.in_ok-push.ensures.items,
+      ends_with_one s c.loop-slot.ends.items c.push.new.self.items c.loop-slot.slot c.end_of.result c.loop-slot.invariant.0 c.end_of.ensures.value c.in_ok-push.ensures.items,
       rw c.in_ok-push.ensures.items (All-push (λ (e : Option (ℕ × Side)). IfSome e (λ x. x.0 < length (couples s))) c.loop-slot.ends.items c.end_of.result c.loop-slot.invariant.1 c.end_of.ensures.there),
     )
 

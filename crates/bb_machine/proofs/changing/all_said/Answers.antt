@@ -1,6 +1,6 @@
 use Rattle.std.proofs.Common.{◌+◌, drop}
 use Rattle.std.proofs.lemmas.Result.{err_from_is_err_and}
-use Rattle.bb_basis.proofs.IntoMapLemmas.{into_map_error, into_map_next, into_map_end, next_one, none_left}
+use Rattle.bb_basis.proofs.IntoMapLemmas.{into_map_error, into_map_next, into_map_end, next_one, length_drop_all}
 use Rattle.bb_machine.specs.Changing.{said_due}
 use Rattle.bb_machine.specs.declared.halt.Halt.TheVariants.{Memory}
 use Rattle.bb_machine.proofs.SaidLemmas.{said_with}
@@ -18,4 +18,4 @@ loop-value-preserved c = (
 )
 
 pub returns-clause-gives : goal.returns-clause-gives
-returns-clause-gives c = into_map_end (said_due c.args.board.now) c.loop-value.said.items (drop c.loop-value.value-index c.args.values.now) _ (none_left c.args.values.now c.loop-value.value-index c.loop-value-test.false) c.loop-value.invariant.0
+returns-clause-gives c = into_map_end (said_due c.args.board.now) c.loop-value.said.items (drop c.loop-value.value-index c.args.values.now) _ (length_drop_all c.args.values.now c.loop-value.value-index c.loop-value-test.false) c.loop-value.invariant.0

@@ -10,7 +10,7 @@ use Rattle.bb_machine.specs.Machine.{go_to}
 use Rattle.bb_machine.specs.Step.{step}
 use Rattle.bb_machine.specs.Activation.{Execution, halted}
 use Rattle.bb_machine.proofs.ReadLemmas.{no_write_at}
-use Rattle.bb_machine.proofs.ExecutionLemmas.{goes_on, left_by, kept_or_memory, cut_after, cut_before, ends_outside, ends_at_limit, ends_by_op, gives_halted, leaves_halted}
+use Rattle.bb_machine.proofs.ExecutionLemmas.{steps_next, left_by, kept_or_memory, cut_after, cut_before, ends_outside, ends_at_limit, ends_by_op, gives_halted, leaves_halted}
 use Rattle.bb_machine.proofs.NamedLemmas.{named_cut}
 use Rattle.bb_machine.proofs.FullLemmas.{full_where}
 use Rattle.bb_machine.proofs.execution.execute.Goals as goal
@@ -78,7 +78,7 @@ loop-steps-preserved c =
     record {
       told = λ n limit is.
           c.loop-steps.invariant.told (n + 1) limit (omega arith)
-          ∙ goes_on n c.loop-steps.steps c.args.code.now c.loop-steps.machine c.loop-steps.board c.in-Some.op (c.step.new.machine, c.step.new.board) at
+          ∙ steps_next n c.loop-steps.steps c.args.code.now c.loop-steps.machine c.loop-steps.board c.in-Some.op (c.step.new.machine, c.step.new.board) at
           (ap (λ x. step c.args.code.now c.in-Some.op (x, c.loop-steps.board)) (sym moved) ∙ c.in_default-step.ensures.gives);
       reads = λ none.
           c.in_default-step.ensures.reads (no_write_at c.args.code.now c.loop-steps.machine.place c.in-Some.op none (sym at)) ∙ c.loop-steps.invariant.reads none;

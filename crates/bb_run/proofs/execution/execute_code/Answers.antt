@@ -1,7 +1,7 @@
 use Rattle.std.proofs.Common.{◌∙◌, ◌∷◌, [], None, Some, Ok, Err, ap, subst}
 use Rattle.bb_exec.specs.declared.stop.Stop.{Stop}
 use Rattle.bb_exec.specs.declared.stop.Stop.TheVariants.{Full}
-use Rattle.bb_theorem_machine.specs.Stop.TheVariants as stops
+use Rattle.bb_machine.specs.declared.outcome.Stop.TheVariants as stops
 use Rattle.bb_verify.specs.Accepted.{Checked}
 use Rattle.bb_verify.specs.Budget.{budget}
 use Rattle.bb_trace.specs.End as ends

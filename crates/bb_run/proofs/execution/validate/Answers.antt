@@ -1,5 +1,5 @@
 use Rattle.std.proofs.Common.{subst, sym}
-use Rattle.bb_theorem_machine.specs.Entry.{Entry}
+use Rattle.bb_machine.specs.declared.outcome.Entry.{Entry}
 use Rattle.bb_run.specs.Serving.{CanExecute}
 use Rattle.bb_run.proofs.execution.validate.Goals as goal
 

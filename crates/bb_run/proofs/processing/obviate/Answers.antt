@@ -1,5 +1,5 @@
 use Rattle.std.proofs.Common.{◌∙◌, ap, sym}
-use Rattle.bb_trace.specs.Source.{Source}
+use Rattle.bb_rules.specs.Parts.{Source}
 use Rattle.bb_run.proofs.processing.obviate.Goals as goal
 
 pub obviate_all-requires : goal.obviate_all-requires

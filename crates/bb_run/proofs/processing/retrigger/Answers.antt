@@ -1,5 +1,5 @@
 use Rattle.std.proofs.Common.{◌∙◌, ap, sym}
-use Rattle.bb_trace.specs.Source.{Source}
+use Rattle.bb_rules.specs.Parts.{Source}
 use Rattle.bb_run.proofs.processing.retrigger.Goals as goal
 
 pub retrigger_all-requires : goal.retrigger_all-requires

@@ -1,6 +1,6 @@
 use Rattle.std.proofs.Common.{◌≡◌, ◌∙◌, ap, subst, sym, true}
 use Rattle.bb_schema.specs.Schema.{Schema}
-use Rattle.bb_trace.specs.Match.{any_match}
+use Rattle.bb_rules.specs.Match.{any_match}
 use Rattle.bb_run.specs.Processing.{obviated_by, reacting, rerated_by}
 use Rattle.bb_run.specs.Seen.{seen}
 use Rattle.bb_run.specs.Serving.{ServesAt}

@@ -1,6 +1,6 @@
 use Rattle.std.proofs.Common.{◌≡◌, ◌∙◌, ap, subst, sym, true}
-use Rattle.bb_trace.specs.Match.{any_match}
-use Rattle.bb_trace.specs.Source.{Source}
+use Rattle.bb_rules.specs.Match.{any_match}
+use Rattle.bb_rules.specs.Parts.{Source}
 use Rattle.bb_run.proofs.processing.trigger.Goals as goal
 
 pub require-requires : goal.require-requires

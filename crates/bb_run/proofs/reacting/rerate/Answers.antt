@@ -1,8 +1,8 @@
 use Rattle.std.proofs.Common.{ℤ, None, ap, refl, rules, subst, sym, w64}
 use Rattle.std.proofs.lemmas.Int.{to_z-of_z}
 use Rattle.bb_agenda.specs.Agenda.{Agenda}
-use Rattle.bb_theorem_machine.specs.Answer.{Answer}
-use Rattle.bb_theorem_machine.specs.Answer.TheVariants.{Rated}
+use Rattle.bb_machine.specs.declared.outcome.Answer.{Answer}
+use Rattle.bb_machine.specs.declared.outcome.Answer.TheVariants.{Rated}
 use Rattle.bb_run.specs.Processing.{rerated_by}
 use Rattle.bb_run.specs.State.{with_agenda}
 use Rattle.bb_run.specs.Seen.{seen}

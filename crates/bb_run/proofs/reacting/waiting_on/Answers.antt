@@ -1,7 +1,7 @@
 use Rattle.std.proofs.Common.{◌∙◌, List, subst, sym}
 use Rattle.bb_agenda.specs.declared.focusing.activation.Activation.{Activation}
 use Rattle.bb_agenda.specs.Agenda.{pending_on}
-use Rattle.bb_run.proofs.responding.WaitingLemmas.{Finds, none_found, all_found, next_pends, one_more}
+use Rattle.bb_run.proofs.responding.WaitingLemmas.{Finds, none_found, all_found, next_pends, take_one_more}
 use Rattle.bb_run.proofs.reacting.waiting_on.Goals as goal
 
 pub loop-number-init : goal.loop-number-init
@@ -19,7 +19,7 @@ pub loop-number-preserved : goal.loop-number-preserved
 loop-number-preserved c =
     let waiting = pending_on c.args.agenda.now c.args.place c.args.unit in
     subst (λ (found : List Activation). Finds waiting found c.next.new.self) (sym {A = List Activation} c.in_ok-push.ensures.items)
-    (one_more c.args.agenda.now waiting c.loop-number.waiting.items c.pending_on-number-items.ensures.itself
+    (take_one_more c.args.agenda.now waiting c.loop-number.waiting.items c.pending_on-number-items.ensures.itself
     c.loop-number.number-iterator c.loop-number.invariant c.in-Some.number c.next.new.self c.in-Some.ensures.steps c.activation.result c.activation.ensures)
 
 pub returns : goal.returns

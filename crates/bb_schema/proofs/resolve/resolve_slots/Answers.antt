@@ -1,5 +1,5 @@
 use Rattle.std.proofs.lemmas.Result.{err_from_is_err_and}
-use Rattle.bb_basis.proofs.IntoMapLemmas.{into_map_error, into_map_next, into_map_end, next_one, none_left}
+use Rattle.bb_basis.proofs.IntoMapLemmas.{into_map_error, into_map_next, into_map_end, next_one, length_drop_all}
 use Rattle.bb_schema.specs.Resolution.{resolved_slot}
 use Rattle.bb_schema_classes.specs.declared.fault.SchemaFault.TheVariants.{Memory}
 use Rattle.bb_schema.proofs.resolve.resolve_slots.Goals as goal
@@ -15,4 +15,4 @@ loop-draft-preserved c = rw c.in_ok-push.ensures.items (into_map_next (resolved_
     (next_one c.args.drafts.now c.loop-draft.draft-index c.draft-item.result c.loop-draft-test.true c.draft-item.is) c.in_ok-resolve_slot.ensures c.loop-draft.invariant)
 
 pub returns : goal.returns
-returns c = into_map_end (resolved_slot c.args.classes.now c.args.drafts.now) c.loop-draft.slots.items _ _ (none_left c.args.drafts.now c.loop-draft.draft-index c.loop-draft-test.false) c.loop-draft.invariant
+returns c = into_map_end (resolved_slot c.args.classes.now c.args.drafts.now) c.loop-draft.slots.items _ _ (length_drop_all c.args.drafts.now c.loop-draft.draft-index c.loop-draft-test.false) c.loop-draft.invariant

@@ -1,5 +1,5 @@
 use Rattle.std.proofs.lemmas.Result.{err_from_is_err_and}
-use Rattle.bb_basis.proofs.IntoMapLemmas.{into_map_error, into_map_next, into_map_end, next_one, none_left}
+use Rattle.bb_basis.proofs.IntoMapLemmas.{into_map_error, into_map_next, into_map_end, next_one, length_drop_all}
 use Rattle.bb_shell.specs.Sources.{compiled_source}
 use Rattle.bb_refusal.specs.declared.input_fault.InputFault.TheVariants.{Memory}
 use Rattle.bb_shell.proofs.compiled.compile_all.Goals as goal
@@ -16,4 +16,4 @@ loop-tree-preserved c =
     (next_one c.args.trees.now c.loop-tree.tree-index c.tree-item.result c.loop-tree-test.true c.tree-item.is) c.in_ok-compile_source.ensures c.loop-tree.invariant)
 
 pub returns : goal.returns
-returns c = into_map_end (compiled_source c.args.schema.now) c.loop-tree.codes.items _ _ (none_left c.args.trees.now c.loop-tree.tree-index c.loop-tree-test.false) c.loop-tree.invariant
+returns c = into_map_end (compiled_source c.args.schema.now) c.loop-tree.codes.items _ _ (length_drop_all c.args.trees.now c.loop-tree.tree-index c.loop-tree-test.false) c.loop-tree.invariant

@@ -1,7 +1,7 @@
 use Rattle.std.proofs.Common.{subst, sym, ◌∙◌, ap}
 use Rattle.std.specs.Prelude.{All}
 use Rattle.bb_schema.specs.Schema.{Schema}
-use Rattle.bb_run.specs.Law.{IsMade}
+use Rattle.bb_rules.specs.Law.{IsMade}
 use Rattle.bb_run.specs.Plan.{Plan}
 use Rattle.bb_shell.specs.Fitting.{HasAct, names_in}
 use Rattle.bb_shell.proofs.FitLemmas.{fitted_keeps}

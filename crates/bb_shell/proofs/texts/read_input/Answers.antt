@@ -3,7 +3,7 @@ use Rattle.std.proofs.lemmas.Int.{to_z-of_z}
 use Rattle.std.proofs.Common.{w64, ◌∙◌, subst}
 use Rattle.std.specs.Prelude.{All}
 use Rattle.bb_schema.specs.Schema.{Schema}
-use Rattle.bb_run.specs.Law.{IsMade}
+use Rattle.bb_rules.specs.Law.{IsMade}
 use Rattle.bb_shell.specs.Fitting.{names_in}
 use Rattle.bb_shell.proofs.MadeLemmas.{given_made}
 use Rattle.bb_shell.proofs.MeaningLemmas.{schema_fails, units_fail, sources_fail, means}

@@ -1,6 +1,6 @@
 use Rattle.std.proofs.Common.{subst}
 use Rattle.bb_schema.specs.Fits as schemas
-use Rattle.bb_theorem_machine.proofs.NeverWrong.{each_stands, stuck_by_turns, answers, never_stuck, within_budget, stuck_below, found_few, goes_on}
+use Rattle.bb_theorem_machine.proofs.NeverWrong.{each_stands, stuck_by_turns, answers, never_stuck, within_budget, stuck_below, found_few, activation_after}
 use Rattle.bb_theorem_machine.proofs.WriteLemmas.{only_part_reads}
 use Rattle.bb_theorem_machine.proofs.changing.OutlivedSteps.{cut_lasts, cut_schema}
 use Rattle.bb_theorem_machine.proofs.execution.trial.Goals as goal
@@ -47,4 +47,4 @@ returns-clause-all_few c = λ part frames begins.
 
 pub returns-clause-goes_on : goal.returns-clause-goes_on
 returns-clause-goes_on c = λ part frames k n state begins.
-    goes_on part frames c.args.code.now c.args.entry c.args.board.now c.args.limit c.ops.ensures.fits (subst schemas.Fits c.schema.ensures c.fits.ensures) c.fits-2.ensures begins k n state
+    activation_after part frames c.args.code.now c.args.entry c.args.board.now c.args.limit c.ops.ensures.fits (subst schemas.Fits c.schema.ensures c.fits.ensures) c.fits-2.ensures begins k n state

@@ -1,6 +1,6 @@
 use Rattle.std.proofs.Common.{◌≡◌, ◌∙◌, ap, subst, List, length, replicate, None}
-use Rattle.bb_verify_effect.specs.FrameEntry.{FrameEntry}
-use Rattle.bb_verify_effect.specs.Op.{Op}
+use Rattle.bb_code.specs.declared.frame.FrameEntry.{FrameEntry}
+use Rattle.bb_code.specs.declared.op.Op.{Op}
 use Rattle.bb_verify.specs.Places.{declared_frames, with_frames}
 use Rattle.bb_verify.specs.proving.Numbered.{numbered_frames}
 use Rattle.bb_verify.proofs.NumberedLemmas.{none_numbered}

@@ -1,5 +1,5 @@
 use Rattle.std.proofs.Common.{ap, ◌∙◌, set}
-use Rattle.bb_verify_effect.specs.Kind.TheVariants.{Old}
+use Rattle.bb_code.specs.declared.frame.Kind.TheVariants.{Old}
 use Rattle.bb_verify.proofs.EntryLemmas.{first_set}
 use Rattle.bb_verify.proofs.places.one_unit.Goals as goal
 

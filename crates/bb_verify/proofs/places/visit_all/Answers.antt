@@ -2,7 +2,7 @@ use Rattle.std.proofs.Common.{◌-◌, ◌+◌, ◌<◌, arith, ap, length}
 use Rattle.std.specs.List.{range_with_len}
 use Rattle.std.proofs.lemmas.Result.{err_from_is_err_and}
 use Rattle.bb_basis.proofs.TryFoldLemmas.{try_fold_next, try_fold_error}
-use Rattle.bb_verify_effect.specs.Flaws.{out_of_memory}
+use Rattle.bb_code.specs.Flaws.{out_of_memory}
 use Rattle.bb_verify.specs.Places.{visit}
 use Rattle.bb_verify.specs.proving.Numbered.{frames_by}
 use Rattle.bb_verify.specs.proving.Passes.{walk_of}

@@ -1,6 +1,6 @@
 use Rattle.std.proofs.Common.{◌≡◌, ◌-◌, length}
 use Rattle.std.specs.List.{range_with_len}
-use Rattle.bb_verify_effect.specs.Each.{each}
+use Rattle.bb_code.specs.Each.{each}
 use Rattle.bb_verify.specs.Tables.{table_at}
 use Rattle.bb_verify.proofs.tables.all_in_tables.Given as goal
 

@@ -1,6 +1,6 @@
 use Rattle.std.proofs.Common.{ap, ◌∙◌}
 use Rattle.bb_basis.specs.Results.{◌>>=◌}
-use Rattle.bb_verify_effect.specs.Each.{each}
+use Rattle.bb_code.specs.Each.{each}
 use Rattle.bb_verify.specs.Tables.{known_kind, known_entry, known_frame}
 use Rattle.bb_verify.proofs.tables.known_frame.Goals as goal
 

@@ -1,5 +1,5 @@
 use Rattle.std.proofs.Common.{◌≡◌, drop}
-use Rattle.bb_verify_effect.specs.Each.{each}
+use Rattle.bb_code.specs.Each.{each}
 use Rattle.bb_verify.specs.Tables.{known_frame}
 use Rattle.bb_verify.proofs.tables.known_frames.Given as goal
 

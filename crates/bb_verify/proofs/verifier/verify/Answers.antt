@@ -1,5 +1,5 @@
 use Rattle.std.proofs.Common.{◌≡◌, Ok, sym, subst, ◌∙◌, arith}
-use Rattle.bb_verify_effect.specs.Code.{IsCode}
+use Rattle.bb_code.specs.Code.{IsCode}
 use Rattle.bb_verify.specs.Accepted.{Checked, checked}
 use Rattle.bb_verify.specs.Facts.{Facts}
 use Rattle.bb_verify.proofs.BudgetLemmas.{depths_long}

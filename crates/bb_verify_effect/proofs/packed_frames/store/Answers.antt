@@ -28,4 +28,4 @@ returns-then-eq-2-clause-stored c =
     let same = sym all ∙ (kinds_decide (take (length read - near) (drop near read)) (take left more)).0 (sym c.eq-then-left-more.ensures ∙ c.if-eq-2.true) in
     let less : left < length more = c.if-left-more.true in
     is_completed c.args.kinds.now.items more read c.add_kinds.new.kinds.items near left c.len-then-eq-2.result c.requires.near counts
-        c.deref-then-left-more.ensures.value same made ends (omega (arith, less))
+    c.deref-then-left-more.ensures.value same made ends (omega (arith, less))

@@ -6,7 +6,7 @@ use Rattle.bb_agenda.specs.Changes.{other_than}
 use Rattle.bb_agenda.specs.proving.Filed.{AreFiled, AreKeyed}
 use Rattle.bb_agenda.specs.proving.Ranks.{AreRanked, ranked_less}
 use Rattle.bb_agenda.proofs.FiledLemmas.{filed_less}
-use Rattle.bb_agenda.proofs.KeyedLemmas.{found, values_less, keyed_less}
+use Rattle.bb_agenda.proofs.KeyedLemmas.{lookup_is_find, values_less, keyed_less}
 use Rattle.bb_agenda.proofs.RankLemmas.{ranked_gone}
 use Rattle.bb_agenda.proofs.waiting.Waiting.remove.Goals as goal
 
@@ -16,7 +16,7 @@ invariant_of-self c =
     let n = c.args.number in
     let a = c.in-Some.activation in
     let es = old.activations.entries in
-    let is : find (has_number n) (values_of es) ≡ Some a = sym (found n es c.self.invariant.keyed) ∙ sym c.remove.ensures.value ∙ c.in-Some.is in
+    let is : find (has_number n) (values_of es) ≡ Some a = sym (lookup_is_find n es c.self.invariant.keyed) ∙ sym c.remove.ensures.value ∙ c.in-Some.is in
     let values : values_of c.remove.new.self.entries ≡ filter (other_than n) (values_of es) = ap values_of c.remove.ensures.entries ∙ values_less n es c.self.invariant.keyed c.self.invariant.filed.rising in
     record {
       keyed = subst AreKeyed (sym c.remove.ensures.entries) (keyed_less n es c.self.invariant.keyed);

@@ -3,7 +3,7 @@ use Rattle.std.proofs.lemmas.List.{length-map}
 use Rattle.std.proofs.lemmas.Result.{IfOk-weaker, on_ok_weaker, on_err_weaker}
 use Rattle.bb_native.specs.Native.{asks_of}
 use Rattle.bb_native.specs.Roster.{asks_at}
-use Rattle.bb_native.proofs.RosterLemmas.{open_at, still_open, same_seen, named_still, kept, asked_at, acted_at}
+use Rattle.bb_native.proofs.RosterLemmas.{open_at, still_open, same_seen, named_still, acts_stay_open, asked_at, acted_at}
 use Rattle.bb_native.proofs.roster.Roster.act.Goals as goal
 
 pub act-requires : goal.act-requires
@@ -16,7 +16,7 @@ invariant_of-self g c =
     let m = g.N.NativeSource.meaning in
     let items = c.args.self.now.natives.items in
     let lt : c.args.place < length items = omega (arith, length-map items m) in
-    let same = kept (m c.index_mut.result.now) (m c.act.new.self) c.args.unit c.args.view.now c.act.result c.act.ensures.ok c.act.ensures.err in
+    let same = acts_stay_open (m c.index_mut.result.now) (m c.act.new.self) c.args.unit c.args.view.now c.act.result c.act.ensures.ok c.act.ensures.err in
     let was = open_at m items c.args.place c.index_mut.result.now lt c.index_mut.ensures.value c.args.self.now.opened in
     record {
       opened = still_open m items c.args.place c.act.new.self (same.0 ∙ was) c.args.self.now.opened;

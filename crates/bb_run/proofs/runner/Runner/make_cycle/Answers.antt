@@ -3,7 +3,7 @@ use Rattle.std.proofs.lemmas.Result.{err_from_is_err_and}
 use Rattle.std.specs.Prelude.{option_and_then, slice_get}
 use Rattle.bb_agenda.specs.Rating.{rating_in}
 use Rattle.bb_trace.specs.Board.{Board as Blackboard}
-use Rattle.bb_trace.specs.Source.{Source}
+use Rattle.bb_rules.specs.Parts.{Source}
 use Rattle.bb_trace.specs.declared.note.Note.{Note}
 use Rattle.bb_run.specs.State.{with_board}
 use Rattle.bb_run.specs.Run.{acting, chosen_with, cycle, if_valid, rating, validity}

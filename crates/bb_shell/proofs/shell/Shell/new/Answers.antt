@@ -3,7 +3,7 @@ use Rattle.std.proofs.lemmas.Int.{to_z-of_z}
 use Rattle.std.specs.Prelude.{All}
 use Rattle.bb_basis.specs.Results.{Gives}
 use Rattle.bb_run.specs.Plan.{Plan}
-use Rattle.bb_run.specs.RuleFault.TheVariants.{Memory}
+use Rattle.bb_rules.specs.declared.fault.RuleFault.TheVariants.{Memory}
 use Rattle.bb_shell.specs.Fitting.{HasAct}
 use Rattle.bb_shell.specs.Shell.{shell_of}
 use Rattle.bb_shell.proofs.UnstuckLemmas.{names_told}

@@ -16,7 +16,8 @@ pub invariant_of-self-2 : goal.invariant_of-self-2
 invariant_of-self-2 c =
     let span = c.in_ok-span.span in
     let new = c.put_kinds.new.kinds.items in
-    let made : c.push_reserved.new.self.items ≡ c.self.inside.spans.items ++ span ∷ [] = c.push_reserved.ensures.items ∙ ap (λ l. l ++ span ∷ []) c.reserve.ensures.items in
-    (All-same (Lies (length new)) c.push_reserved.new.self.items (c.self.inside.spans.items ++ span ∷ []) made
-        (lie_in_more c.self.inside.kinds.items new c.self.inside.spans.items span c.in_ok-span.ensures.ok c.self.invariant.0 c.in_ok-span.ensures.lies)
-    , c.in_ok-span.ensures.lies)
+    let made : c.push_reserved.new.self.items ≡ c.self.inside.spans.items ++ span ∷ [] = c.push_reserved.ensures.items ∙ ap (λ l. l ++ span ∷ []) c.reserve.ensures.items in (
+      All-same (Lies (length new)) c.push_reserved.new.self.items (c.self.inside.spans.items ++ span ∷ []) made
+          (lie_in_more c.self.inside.kinds.items new c.self.inside.spans.items span c.in_ok-span.ensures.ok c.self.invariant.0 c.in_ok-span.ensures.lies),
+      c.in_ok-span.ensures.lies,
+    )
