@@ -81,15 +81,19 @@ slot_place s space None = refl
 slot_place s space (Some t) = named_place s t.name space
 
 -- the table of a slot has its reading in each space
-pub reading_at : (s : Schema) (slot space : ℕ) → option_and_then (λ place. place) (slice_get (readings_of s slot) space) ≡ reading s slot space
+reading_at : (s : Schema) (slot space : ℕ) → option_and_then (λ place. place) (slice_get (readings_of s slot) space) ≡ reading s slot space
 reading_at s slot space = slot_place s space (slice_get s.slots slot)
+
+pub reading_by : (s : Schema) (slot space : ℕ) (row : List (Option ℕ)) (o : Option (Option ℕ)) → row ≡ readings_of s slot → slice_get row space ≡ o → option_and_then (λ place. place) o ≡ reading s slot space
+reading_by s slot space row o is got =
+    ap (option_and_then (λ place. place)) (sym got) ∙ (ap (λ (r : List (Option ℕ)). option_and_then (λ place. place) (slice_get r space)) is ∙ reading_at s slot space)
 
 -- what a space does not read changes no values, whoever is in it
 unread_by : (o : Option (List DimValue)) (r : Option ℕ) (value : Value) → r ≡ None → option_and_then (λ told. option_and_then (λ place. option_map (slice_set told place) (dim_value_of value)) r) o ≡ None
 unread_by None r value none = refl
 unread_by (Some told) r value none = ap (option_and_then (λ place. option_map (slice_set told place) (dim_value_of value))) none
 
-pub unread : (s : Schema) (t : Spaces) (n slot : ℕ) (value : Value) (space : ℕ) → reading s slot space ≡ None → values_anew s t n slot value space ≡ None
+unread : (s : Schema) (t : Spaces) (n slot : ℕ) (value : Value) (space : ℕ) → reading s slot space ≡ None → values_anew s t n slot value space ≡ None
 unread s t n slot value space none = unread_by (values_in t space n) (reading s slot space) value none
 
 nothing_told : {X : Type 0} (f : ℕ → Option X) → ((q : ℕ) → f q ≡ None) → (xs : List ℕ) → filter_map f xs ≡ []
