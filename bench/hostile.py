@@ -247,7 +247,7 @@ ROWS = [
     Row("Memberships in 16 dimensions", memberships, 1_024, things=lambda n: n * 256, bytes_each=1_250),
     Row("Links of all", links, 1_024, things=lambda n: n * n, bytes_each=195),
     Row("Units of 64 slots, none set", blanks, 254, things=lambda n: n * n, bytes_each=1_350),
-    Row("Wide frames", frames, 256, lambda n: ["check"], things=lambda n: len(frames(1)) * n, bytes_each=70),
+    Row("Wide frames", frames, 256, lambda n: ["check"], things=lambda n: len(frames(1)) * n, bytes_each=78),
 ]
 
 
