@@ -50,6 +50,11 @@ class Written:
     classes: tuple[str, ...]
     pieces: list[Piece]
 
+    @property
+    def is_native(self) -> bool:
+        """Whether a native acts for it."""
+        return any(it.part == "do" and it.text.lstrip().startswith("native") for it in self.pieces)
+
 
 @dataclass(slots=True)
 class First:
@@ -62,9 +67,10 @@ class First:
 
 @dataclass(slots=True)
 class Given:
-    """What the input in a file gives: its classes, each with those above it, its first units, and its sources."""
+    """What the input in a file gives: its text, its classes, each with those above it, its first units, its sources."""
 
     file: str
+    text: str
     classes: dict[str, tuple[str, ...]]
     firsts: list[First]
     sources: dict[str, Written]
@@ -72,13 +78,14 @@ class Given:
 
 def given_of(file: Path) -> Given:
     """What the input in a file gives."""
-    sections = sections_of(text_of(file))
+    text = text_of(file)
+    sections = sections_of(text)
     classes = read_document(sections, "%schema", classes_of)
     firsts = read_document(sections, "%units", lambda document: firsts_of(document, classes))
     texts = sources_of_text(sections["%sources"]) if "%sources" in sections else []
     bundled = sources_of_bundle(sections["%bundle"]) if "%bundle" in sections else []
     sources = {name: Written(name, classes_above(classes, of), pieces) for name, of, pieces in [*texts, *bundled]}
-    return Given(file.name, classes, firsts, sources)
+    return Given(file.name, text, classes, firsts, sources)
 
 
 def text_of(file: Path) -> str:

@@ -46,7 +46,7 @@ class Lines {
     const number = text === null ? 0 : step.first + place;
     const made = html("div", { class: this.classes(step, number, text), "data-line": number || null },
       html("span", { class: "line-number" }, number ? String(number) : ""),
-      html("code", {}, text === null ? this.lost(step, place) : [told(text), namesIn(text)]));
+      html("code", {}, text === null ? this.lost(step, place) : [told(text), setTold(number, text), namesIn(text)]));
     if (text?.length > 50) made.title = text;
     made.style.top = `${index * ROW + 6}px`;
     return made;

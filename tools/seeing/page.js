@@ -40,7 +40,8 @@ function showNotices() {
   const floor = run.floor === null && html("p", {},
     "What was rated below 0 acted, so the run had a floor of its own, and this page tells of none. Give it too: ",
     html("code", {}, "tools/see --floor=N"));
-  at(".notices").append(...[cut, long, floor].filter(Boolean));
+  const why = run.board.isTold && whyNoValues();
+  at(".notices").append(...[cut, long, floor, why && html("p", {}, why)].filter(Boolean));
   at(".whole span").textContent = dropped > 0 ? "All that is shown" : "Whole run";
   at(".whole span").style.width = `${LABELS - 14}px`;
 }
@@ -87,7 +88,7 @@ function show() {
   const life = !step && (sort === "act" || sort === "unit") ? run.lifeOf(item) : null;
   const now = timeline.selected ?? firstStep();
   const selected = step ?? (line ? item : life ? stepOfLife(life, now) : now);
-  fill(step ? stepPanel(step) : NAMEABLE[sort].panel(item, name));
+  fill(step ? stepPanel(step) : NAMEABLE[sort].panel(item, name, selected));
   timeline.show(selected, id);
   lines.show(selected, line, life?.lines ?? new Set());
 }

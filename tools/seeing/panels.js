@@ -13,6 +13,7 @@ function stepPanel(step) {
     effects(step, lines),
     reactions(step, lines),
     ending(lines),
+    boardPart(step),
     step.missing > 0 && remark(`${plural(step.missing, "line")} more of this step are not kept in the page.`),
   ];
 }
@@ -232,7 +233,7 @@ function overRow(step, act) {
 
 // ---- a unit, a source
 
-function unitPanel(unit) {
+function unitPanel(unit, name, step) {
   const at = (line) => {
     const step = run.stepAt(line);
     return [stepLink(step), step.act > 0 && [" by ", sourceLink(run.actOf.get(step.act).source.name)]];
@@ -244,8 +245,9 @@ function unitPanel(unit) {
     head(`Unit ${run.called(unit.number)}`, unit.of),
     html("p", {}, "Created in ", at(unit.created), unit.deleted > 0 && [", deleted in ", at(unit.deleted)], "."),
     heldPart(unit),
-    part("When did it change?", unit.changes.length, few(bySteps, group),
-      remark("A trace names the slots that are set, and not their values.")),
+    slotsPart(unit, step),
+    historyPart(unit),
+    part("When did it change?", unit.changes.length, few(bySteps, group)),
     tabled("Activations for it", unit.acts, actHeads("Source"), (act) => actRow(act, sourceLink(act.source.name)),
       "No source was triggered for it."),
   ];

@@ -99,7 +99,7 @@ function namesIn(text, except = 0) {
 
 function lineItem({ number, text, except = 0 }) {
   const place = html("a", { class: "line-number", href: `#line-${number}` }, String(number));
-  return html("li", {}, place, html("code", {}, told(text)), namesIn(text, except));
+  return html("li", {}, place, html("code", {}, told(text), setTold(number, text)), namesIn(text, except));
 }
 
 // What brought a reaction about, as far as the trace tells.

@@ -1,6 +1,7 @@
 """Reads a trace, as docs/users/formats/trace.md has it: its lines, and what they say of steps, activations and units.
 
-With the input of the run it knows more: what first units are called, and what foci weigh until a code sets them.
+With the input of the run it knows more: what first units are called, and what foci weigh until a code sets them. With
+a replay it knows the values of slots.
 """
 
 import re
@@ -10,9 +11,11 @@ from dataclasses import dataclass
 from foci import Foci, Held
 from forms import FORMS, told_refusal, told_unknown
 from given import First, Given
+from replay import CUT, FLOOR, Differs, Replay
 from run import LINE_LIMIT, Activation, Line, Run, Source, Step, Unit
 
 ANOTHER = "so the input is not that of this trace"
+DIFFERS = "so the input, the floor or the library is not that of this trace"
 
 
 class NoTrace(Exception):
@@ -37,7 +40,8 @@ class Reaction:
 class Reader:
     """Takes the lines of a trace, one after another, and refuses the first that can't stand where it does."""
 
-    def __init__(self, given: Given | None = None, floor: int | None = None):
+    def __init__(self, given: Given | None = None, floor: int | None = None, replay: Replay | None = None):
+        self.replay = replay or Replay()
         self.run = Run(given=given, floor=floor or 0)
         self.is_floor_told = floor is not None
         self.foci = Foci()
@@ -58,11 +62,32 @@ class Reader:
             self.refuse(told_refusal(text) if self.run.lines == 1 else told_unknown(text))
         if self.state == "finished" and word != "closed":
             self.refuse("a line after `finish`")
+        expected = self.replayed(text)
+        shown = text
         if len(text) > LINE_LIMIT:
-            text = f"{text[:LINE_LIMIT]}… ({len(text) - LINE_LIMIT} more characters)"
-        line = Line(self.run.lines, text)
+            shown = f"{text[:LINE_LIMIT]}… ({len(text) - LINE_LIMIT} more characters)"
+        line = Line(self.run.lines, shown)
         getattr(self, f"take_{word}")(line, match)
+        self.want_replayed(text, expected)
         self.step.add(line)
+
+    def replayed(self, text: str) -> str | None:
+        """The line that a replay has here."""
+        try:
+            return self.replay.expected(self.run.lines, text)
+        except Differs as fault:
+            self.refuse(f"{fault}, {DIFFERS}")
+
+    def want_replayed(self, text: str, expected: str | None) -> None:
+        """A line is that of the replay. The first line of a step brings what is set at its end."""
+        if self.run.floor is None:
+            self.replay.stop(self.run.lines, FLOOR)
+        elif expected is not None and expected != text:
+            has = ascii(expected[:60] + "…" * (len(expected) > 60)) if expected else "no more lines"
+            self.refuse(f"the replay has {has}, {DIFFERS}")
+        values = self.replay.taken()
+        if values is not None:
+            self.step.hold(values)
 
     def refuse(self, why: str) -> None:
         raise NoTrace(self.run.lines, why)
@@ -82,7 +107,11 @@ class Reader:
         self.run.kept.add(self.step)
 
     def end(self) -> Run:
-        """There are no more lines."""
+        """There are no more lines. What a replay holds at the end of a step is not told where the trace is cut in it."""
+        if self.replay.lines:
+            self.replay.stop(self.step.first, CUT)
+            self.step.hold({})
+        self.run.until, self.run.why = self.replay.until, self.replay.why
         self.close()
         return self.run
 
@@ -115,11 +144,11 @@ class Reader:
         return firsts[unit.number - 1]
 
     def know_set(self, line: Line, unit: Unit, slot: str) -> None:
-        """A code sets a slot of a focus, to what no trace tells. Of what a focus held in a step the last is kept."""
+        """A code sets a slot of a focus, to what only a replay tells. Of what a focus held in a step the last is kept."""
         if not unit.held or slot not in Held._fields or self.step.kind == "start":
             return
         since, before = unit.held[-1]
-        after = before._replace(**{slot: None})
+        after = before._replace(**{slot: self.replay.values.get((unit.number, slot))})
         if since >= self.step.first:
             unit.held.pop()
         unit.held.append((line.number, after))
@@ -341,9 +370,11 @@ class Reader:
         self.want(("finished",), "`closed` comes after `finish`")
 
 
-def read(lines: Iterable[bytes], given: Given | None = None, floor: int | None = None) -> Run:
+def read(
+    lines: Iterable[bytes], given: Given | None = None, floor: int | None = None, replay: Replay | None = None
+) -> Run:
     """The run that a trace tells, whose lines end with their line feeds; a last one that does not is cut."""
-    reader = Reader(given, floor)
+    reader = Reader(given, floor, replay)
     for raw in lines:
         if not raw.endswith(b"\n"):
             reader.run.cut = raw.decode(errors="replace")[:LINE_LIMIT]

@@ -4,10 +4,13 @@ from collections import deque
 from dataclasses import dataclass, field
 
 from foci import Held
+from gap import Gap
 from given import Given
 
 # What a page can bear: so many characters of the first steps, as many of the last ones, of one step, and of one line.
+# The values at the end of a step count too, each with what stands around it.
 LINE_COSTS = 40
+VALUE_COSTS = 16
 ENDS_LIMIT = 6_000_000
 STEP_LIMIT = 1_000_000
 LINE_LIMIT = 2_000
@@ -63,7 +66,10 @@ class Line:
 
 @dataclass(slots=True)
 class Step:
-    """The start, a cycle, a post, or a quiescence: its first lines, and how many more there were."""
+    """The start, a cycle, a post, or a quiescence: its first lines, and how many more there were.
+
+    `values` are what slots hold at its end, each with its unit: those that it set, as far as a replay tells them.
+    """
 
     kind: str
     first: int
@@ -74,6 +80,8 @@ class Step:
     lines: list[Line] = field(default_factory=list)
     missing: int = 0
     costs: int = 0
+    values: dict[tuple[int, str], str] = field(default_factory=dict)
+    value_costs: int = 0
 
     def add(self, line: Line) -> None:
         costs = len(line.text) + LINE_COSTS
@@ -82,6 +90,15 @@ class Step:
             return
         self.costs += costs
         self.lines.append(line)
+
+    def hold(self, values: dict[tuple[int, str], str]) -> None:
+        """Its values are these."""
+        self.values = values
+        self.value_costs = sum(len(it) + VALUE_COSTS for it in values.values())
+
+    @property
+    def size(self) -> int:
+        return self.costs + self.value_costs
 
 
 @dataclass(slots=True)
@@ -94,20 +111,23 @@ class Kept:
     last_costs: int = 0
     dropped: list[Step] = field(default_factory=list)
     dropped_cycles: int = 0
+    gap: Gap = field(default_factory=Gap)
 
     def add(self, step: Step) -> None:
-        if not self.last and self.first_costs + step.costs <= ENDS_LIMIT:
+        if not self.last and self.first_costs + step.size <= ENDS_LIMIT:
             self.first.append(step)
-            self.first_costs += step.costs
+            self.first_costs += step.size
             return
         self.last.append(step)
-        self.last_costs += step.costs
+        self.last_costs += step.size
         while self.last_costs > ENDS_LIMIT:
             self.drop(self.last.popleft())
 
     def drop(self, step: Step) -> None:
-        """Only the first step that is dropped is remembered, without its lines, and how many cycles there were."""
-        self.last_costs -= step.costs
+        """Only the first step that is dropped is remembered, without its lines, how many cycles there were, and what
+        they left."""
+        self.last_costs -= step.size
+        self.gap.fold([it.text for it in step.lines], step.values)
         self.dropped_cycles += step.kind == "cycle"
         if not self.dropped:
             self.dropped.append(Step("gap", step.first))
@@ -118,6 +138,7 @@ class Run:
     """What a trace says. `finish` is empty where the trace is cut, and `cut` is a last line that was not ended.
 
     `given` is the input, where it is there; `floor` is None where the run had another one than the program's own.
+    There are no values from the line `until` on, for the reason `why`; 0 is where there are values of all steps.
     """
 
     kept: Kept = field(default_factory=Kept)
@@ -133,6 +154,8 @@ class Run:
     cut: str = ""
     given: Given | None = None
     floor: int | None = 0
+    until: int = 1
+    why: str = ""
 
     @property
     def steps(self) -> list[Step]:
