@@ -139,8 +139,10 @@ function foundPanel(text, found) {
   return [
     head("Found", `“${text}”`),
     listed("Sources", found.sources, source, "None has it in its name."),
-    listed("Units", found.units, unit, "None has this number, or it in its name or class."),
-    listed("Lines", found.lines, (it) => lineItem({ number: it, text: run.textAt(it) }), "None has it."),
+    listed("Units", found.units, unit, noneOf("None has this number, or it in its name or class.",
+      "None that this page keeps has this number, or it in its name or class.")),
+    listed("Lines", found.lines, (it) => lineItem({ number: it, text: run.textAt(it) }),
+      noneOf("None has it.", "None that this page keeps has it."), partRemark()),
   ];
 }
 
@@ -148,7 +150,8 @@ const lineNow = () => Number(/^#line-(\d+)$/.exec(location.hash)?.[1] ?? 0);
 
 function tellHit() {
   const place = hits.indexOf(lineNow()) + 1;
-  const count = hits.length ? plural(hits.length, "line") : "no line";
+  const kept = run.isPartial ? " kept here" : "";
+  const count = `${hits.length ? plural(hits.length, "line") : "no line"}${kept}`;
   at(".found").textContent = input.value.trim() ? `${place ? `${place} of ` : ""}${count}` : "";
 }
 

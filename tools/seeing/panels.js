@@ -194,7 +194,8 @@ function actPanel(act) {
     head(`Activation ${act.number}`, act.fate === "waits" ? "still waits" : act.fate),
     html("p", {}, sourceHead(act.source.name), " on ", unitTold(act.unit)),
     part("From its trigger to its end", null, few(items, (it) => it)),
-    tabled("Which cycles passed it over?", over, heads, (step) => overRow(step, act), "None: it waited for no other.",
+    tabled("Which cycles passed it over?", over, heads, (step) => overRow(step, act),
+      run.isAcrossGap(act) ? "None that is shown." : "None: it waited for no other.",
       run.isAcrossGap(act) && remark("Of cycles that are not shown nothing is said here.")),
   ];
 }
@@ -247,9 +248,9 @@ function unitPanel(unit, name, step) {
     heldPart(unit),
     slotsPart(unit, step),
     historyPart(unit),
-    part("When did it change?", unit.changes.length, few(bySteps, group)),
+    part("When did it change?", unit.changes.length, few(bySteps, group), partRemark()),
     tabled("Activations for it", unit.acts, actHeads("Source"), (act) => actRow(act, sourceLink(act.source.name)),
-      "No source was triggered for it."),
+      noneOf("No source was triggered for it.", "None that this page keeps."), partRemark()),
   ];
 }
 
@@ -270,6 +271,7 @@ function sourcePanel(source, part) {
     head(source.name, source.of ? `source on ${source.of}` : "source"),
     html("dl", { class: "counts" }, all.map(marks)),
     wholeText(source, part),
-    tabled("Its activations", acts, actHeads("Unit"), (act) => actRow(act, ofUnit(act)), "It got none."),
+    tabled("Its activations", acts, actHeads("Unit"), (act) => actRow(act, ofUnit(act)),
+      noneOf("It got none.", "None that this page keeps."), partRemark()),
   ];
 }

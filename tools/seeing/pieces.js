@@ -112,6 +112,19 @@ function causeTold(line) {
   return ["by one of ", shown, causes.length > 5 && ` and ${causes.length - 5} more`];
 }
 
+// ---- what is not kept
+
+// What is said where nothing is listed: one text where the page has the whole run, and one where it has a part of it.
+const noneOf = (whole, kept) => (run.isPartial ? kept : whole);
+
+// That a list is only of what the page keeps.
+function partRemark() {
+  if (!run.isPartial) return null;
+  const missing = run.steps.reduce((sum, it) => sum + it.missing, 0);
+  const left = [run.totals.dropped && plural(run.totals.dropped, "cycle"), missing && `${plural(missing, "line")} of others`];
+  return remark(`This page does not keep ${left.filter(Boolean).join(" and ")}, so more may be there.`);
+}
+
 // ---- parts, lists and tables
 
 const head = (title, ...aside) => html("div", { class: "head" }, html("h2", {}, title), faint(...aside));

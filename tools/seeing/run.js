@@ -252,6 +252,11 @@ class Run {
     return !act.ended || act.ended >= gap.first;
   }
 
+  // Whether cycles or lines of the run are not in the page, so that what is counted here is not all.
+  get isPartial() {
+    return this.totals.dropped > 0 || this.steps.some((it) => it.missing > 0);
+  }
+
   // ---- units
 
   // A unit's number, and its name where that is told.

@@ -324,7 +324,7 @@ class Timeline {
     const rows = acts.map((act, row) => this.drawActivation(act, row * high, high));
     this.canvas("activations", Math.max(1, rows.length * high), rows);
     const hidden = this.here.length - acts.length;
-    const none = this.run.acts.length ? "None waits here." : "No activation was given.";
+    const none = this.run.totals.activations ? "None waits here." : "No activation was given.";
     const more = `${plural(hidden, "activation")} more not drawn here: click a cycle to see what waited.`;
     this.note("activations", hidden ? more : acts.length ? "" : none);
   }
