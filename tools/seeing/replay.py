@@ -115,13 +115,15 @@ class Replay:
             raise Differs(f"the library refuses the input: {ascii(str(fault))}") from None
 
     def make(self, line: int, text: str) -> None:
-        if text == "post":
-            return self.stop(line, POSTED)
-        if time.monotonic() > self.deadline:
-            return self.stop(line, TIME)
+        """Opens the run, makes a turn, or finishes it, unless it stops."""
+        if text == "post" or time.monotonic() > self.deadline:
+            self.stop(line, POSTED if text == "post" else TIME)
+            return
         if not self.held:
             self.held = self.opened()
             self.look(line)
+        if self.until:
+            return
         if not self.lines and text.startswith("finish "):
             self.lines.extend(self.held.finish().removesuffix("\n").split("\n"))
         elif not self.lines:
@@ -150,7 +152,8 @@ class Replay:
             self.values[unit, slot] = value
             costs += len(text_of(value)) + VALUE_COSTS
             if costs > STEP_LIMIT:
-                return self.stop(line, SIZE)
+                self.stop(line, SIZE)
+                return
         self.is_moved = True
 
     def keys(self, text: str) -> list[tuple[int, str]]:
