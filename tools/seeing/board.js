@@ -43,6 +43,15 @@ class Board {
     return found?.[at]?.step === step ? found[at].text : null;
   }
 
+  // The lines that link a unit, or have it enter or leave a space.
+  movesOf(unit) {
+    unit.own ??= unit.changes.flatMap((line) => {
+      const [, word, slot = "", to] = MOVE.exec(this.run.textAt(line)) ?? [];
+      return word ? [{ line, slot, to, isThere: word === "link" || word === "enter" }] : [];
+    });
+    return unit.own;
+  }
+
   // The partners by each link slot, in the order of linking, and below "" the spaces.
   movesAt(unit, step) {
     const found = new Map();
@@ -53,14 +62,11 @@ class Board {
     };
     const end = this.endOf(step);
     const isAfterGap = this.gap && step.index >= this.gap.index;
-    const before = isAfterGap ? firstWhere(unit.changes.length, (at) => unit.changes[at] >= this.gap.first) : 0;
-    const take = (line) => {
-      const [, word, slot = "", to] = MOVE.exec(this.run.textAt(line)) ?? [];
-      if (word) make({ slot, to, isThere: word === "link" || word === "enter" });
-    };
-    unit.changes.slice(0, before).forEach(take);
+    const gap = this.gap?.first ?? Infinity;
+    const own = this.movesOf(unit);
+    own.filter((it) => it.line < Math.min(end, gap)).forEach(make);
     if (isAfterGap) unit.moves.forEach(make);
-    unit.changes.slice(before).filter((line) => line < end).forEach(take);
+    own.filter((it) => it.line >= gap && it.line < end).forEach(make);
     return found;
   }
 

@@ -17,7 +17,7 @@ PACKAGES = [TOP / "bindings/python", TOP / "python"]
 LIBRARY = TOP / "lib/libbb.so"
 VARIABLE = "RAILCITRON_LIBRARY"
 
-# The bounds of a replay: the seconds after which it begins no other turn, and the characters of one value.
+# The bounds of a replay: the seconds that its moves take, after which it begins no other, and the characters of one value.
 SECONDS = 120
 VALUE_LIMIT = 500
 
@@ -91,7 +91,7 @@ class Replay:
         self.values: dict[tuple[int, str], object] = {}
         self.is_moved = False
         self.until, self.why = (0, "") if opened else (1, why)
-        self.deadline = time.monotonic() + seconds
+        self.left = seconds
 
     def expected(self, line: int, text: str) -> str | None:
         """The line that the replay has where the trace has this one; None where it tells nothing of it."""
@@ -105,6 +105,7 @@ class Replay:
         """Makes the move that brings the next line."""
         import railcitron
 
+        began = time.monotonic()
         try:
             self.make(line, text)
         except railcitron.Due:
@@ -113,10 +114,12 @@ class Replay:
             self.stop(line, MEMORY)
         except railcitron.Refused as fault:
             raise Differs(f"the library refuses the input: {ascii(str(fault))}") from None
+        finally:
+            self.left -= time.monotonic() - began
 
     def make(self, line: int, text: str) -> None:
         """Opens the run, makes a turn, or finishes it, unless it stops."""
-        if text == "post" or time.monotonic() > self.deadline:
+        if text == "post" or self.left < 0:
             self.stop(line, POSTED if text == "post" else TIME)
             return
         if not self.held:
