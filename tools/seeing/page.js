@@ -1,4 +1,5 @@
-// What is shown, by the page's address: `#cycle-3`, `#act-5`, `#unit-7`, `#source-crop`, `#source-crop-do`, `#line-12`.
+// What is shown, by the page's address: `#cycle-3`, `#act-5`, `#unit-7`, `#source-crop`, `#source-crop-do`, `#line-12`,
+// `#said-all`, `#said-source-crop`.
 
 const at = (selector) => document.querySelector(selector);
 const details = at(".details");
@@ -20,6 +21,7 @@ function showTotals() {
   const counts = { cycle: cycles, activation: activations, source: run.sources.length, unit: units, line: lines };
   const total = ([name, count]) => html("li", {}, bold(count.toLocaleString("en")), count === 1 ? name : `${name}s`);
   at(".totals").append(...Object.entries(counts).map(total));
+  if (saidLines().length) at(".totals").append(html("li", {}, link("said-all", "what was said")));
   const state = at(".state");
   state.textContent = run.finish ? `finish ${run.finish}` : lines ? "cut" : "empty";
   state.title = finishMeaning();
@@ -67,6 +69,7 @@ const NAMEABLE = {
     of: (name) => run.sources.find((it) => it.name === name.split("-")[0]),
     panel: (source, name) => sourcePanel(source, name.split("-")[1]),
   },
+  said: { of: saidOf, panel: saidPanel },
 };
 
 const firstStep = () => run.steps.find((it) => it.cycle) ?? run.steps[0];

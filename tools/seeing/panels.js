@@ -270,6 +270,7 @@ function sourcePanel(source, part) {
   return [
     head(source.name, source.of ? `source on ${source.of}` : "source"),
     html("dl", { class: "counts" }, all.map(marks)),
+    saidLink("source", source.name),
     wholeText(source, part),
     tabled("Its activations", acts, actHeads("Unit"), (act) => actRow(act, ofUnit(act)),
       noneOf("It got none.", "None that this page keeps."), partRemark()),

@@ -121,7 +121,8 @@ const noneOf = (whole, kept) => (run.isPartial ? kept : whole);
 function partRemark() {
   if (!run.isPartial) return null;
   const missing = run.steps.reduce((sum, it) => sum + it.missing, 0);
-  const left = [run.totals.dropped && plural(run.totals.dropped, "cycle"), missing && `${plural(missing, "line")} of others`];
+  const { dropped } = run.totals;
+  const left = [dropped && plural(dropped, "cycle"), missing && `${plural(missing, "line")} of others`];
   return remark(`This page does not keep ${left.filter(Boolean).join(" and ")}, so more may be there.`);
 }
 

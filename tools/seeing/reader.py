@@ -107,7 +107,7 @@ class Reader:
         self.run.kept.add(self.step)
 
     def end(self) -> Run:
-        """There are no more lines. What a replay holds at the end of a step is not told where the trace is cut in it."""
+        """There are no more lines. Of a step in which the trace is cut, what a replay holds at its end is left out."""
         if self.replay.lines:
             self.replay.stop(self.step.first, CUT)
             self.step.hold({})
@@ -144,7 +144,7 @@ class Reader:
         return firsts[unit.number - 1]
 
     def know_set(self, line: Line, unit: Unit, slot: str) -> None:
-        """A code sets a slot of a focus, to what only a replay tells. Of what a focus held in a step the last is kept."""
+        """A code sets a slot of a focus; to what, only a replay tells. Of what it held in a step the last is kept."""
         if not unit.held or slot not in Held._fields or self.step.kind == "start":
             return
         since, before = unit.held[-1]

@@ -17,7 +17,7 @@ PACKAGES = [TOP / "bindings/python", TOP / "python"]
 LIBRARY = TOP / "lib/libbb.so"
 VARIABLE = "RAILCITRON_LIBRARY"
 
-# The bounds of a replay: the seconds that its moves take, after which it begins no other, and the characters of one value.
+# The bounds of a replay: the seconds that its moves take, after which it begins no other, and the characters of a value.
 SECONDS = 120
 VALUE_LIMIT = 500
 

@@ -1,5 +1,5 @@
-"""Tests of replays, and of what pages show of values. `tools/test_see` runs them, most over a run that stands in for one
-of the library: some lines for each move, and what slots hold after it."""
+"""Tests of replays, and of what pages show of values. `tools/test_see` runs them, most over a run that stands in for
+one of the library: some lines for each move, and what slots hold after it."""
 
 import json
 import os
@@ -20,7 +20,8 @@ import railcitron  # noqa: E402
 EXAMPLES = TOOLS.parent / "examples"
 LIBRARY = os.environ.get(VARIABLE)
 END = "end steps 3 found 0 budget 3"
-HAIL = "source hail on note { when create note; rate 10; do { with n = it as note { set n.score = 7; set n.score = 12; } } }"
+DO = "do { with n = it as note { set n.score = 7; set n.score = 12; } }"
+HAIL = f"source hail on note {{ when create note; rate 10; {DO} }}"
 INPUT = f"""%schema
 {{"classes": [{{"name": "note", "slots": [{{"name": "score", "kind": "int"}}, {{"name": "text", "kind": "text"}}]}}]}}
 %units
@@ -215,6 +216,19 @@ class ValueTests:
                 assert answer.stderr.startswith(b"see: library: ") and name.encode() in answer.stderr
                 assert (answer.returncode, answer.stdout, answer.stderr.count(b"\n")) == (2, b"", 1)
 
+    # What was said
+
+    def the_page_lists_what_was_said(self):
+        lines = [*START, CYCLE[0], 'say "a" #1', END, "post", 'say "b"', "end post 1", *QUIET, *FINISH]
+        addresses = "said-all", "said-source-hail", "said-class-note", "said-unit-1", "said-unit-2", "source-hail"
+        all, source, of, unit, other, panel = shown(see(trace_of(lines), given=INPUT).stdout, *addresses)
+        one = 'cycle 1hail #1 n5 say "a" #1'
+        assert f"What was said2InBy, onLine{one}" in all["details"] and 'the host8 say "b"' in all["details"]
+        for name, its in {"Saidby hail": source, "Saidon units of class note": of, "Saidon unit 1 n": unit}.items():
+            assert its["details"].startswith(name) and f"What was said1InBy, onLine{one}" in its["details"], name
+        assert "What was said0Nothing." in other["details"]
+        assert "What it said: 1 line" in panel["details"]
+
     # What is not kept
 
     def what_dropped_steps_left_is_that_of_units_that_are_there(self):
@@ -269,7 +283,8 @@ class ValueTests:
                 assert text == value if text[0].isalpha() and type(value) is str else json.loads(text) == value, trace
 
     def a_page_of_the_library_says_what_its_trace_says(self):
-        page = see((EXAMPLES / "jobshop.trace").read_bytes(), "--input", EXAMPLES / "jobshop.bb", "--library", self._library())
+        words = ["--input", EXAMPLES / "jobshop.bb", "--library", self._library()]
+        page = see((EXAMPLES / "jobshop.trace").read_bytes(), *words)
         did, details = shown(page.stdout, "cycle-20")[0]["details"].split("The blackboard at its end")
         assert 'say "plate" "is late by" 1' in did
         due = int(re.search(r'name "plate" · due (\d+)', details)[1])

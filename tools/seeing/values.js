@@ -6,7 +6,8 @@ const unknown = () => faint("?");
 function whyNoValues() {
   const { until, why } = run.board;
   if (!why) return null;
-  return until > 1 ? ["What slots held is shown up to ", lineLink(until), ": ", why] : `What slots held is not shown: ${why}`;
+  if (until > 1) return ["What slots held is shown up to ", lineLink(until), ": ", why];
+  return `What slots held is not shown: ${why}`;
 }
 
 const valueTold = (it) => (it ? html("span", { class: "value" }, it.text) : unknown());
@@ -47,9 +48,10 @@ function boardPart(step) {
   const made = (unit) => row([unitLink(unit.number, "#"), nameTold(unit.number), " ", faint(unit.of)],
     holdingsOf(unit, step));
   const why = step.first >= run.board.until && whyNoValues();
+  const lacks = "Lines before this are not kept in the page, so links and spaces may lack some.";
   return tabled("The blackboard at its end", units, ["Unit", "Holds"], made, "No unit is there.",
     why && remark(why),
-    run.board.lacksLines(step) && remark("Lines before this are not kept in the page, so links and spaces may lack some."));
+    run.board.lacksLines(step) && remark(lacks));
 }
 
 // What the slots of a unit held: at the end of a step, and since when.
@@ -67,7 +69,8 @@ function slotsPart(unit, step) {
 function historyPart(unit) {
   const why = whyNoValues();
   if (!run.board.isTold) return remark(why);
-  const all = [...unit.values].flatMap(([slot, values]) => values.map((it, at) => ({ ...it, slot, before: values[at - 1] })));
+  const all = [...unit.values].flatMap(([slot, values]) =>
+    values.map((it, at) => ({ ...it, slot, before: values[at - 1] })));
   const later = all.filter(({ before }) => before).sort((one, other) => one.step.index - other.step.index);
   const made = ({ step, slot, text, before }) => row(stepLink(step), slot, before.text, html("b", {}, text));
   return [
