@@ -15,8 +15,6 @@ use Rattle.bb_bundle.specs.ClauseText.{ClauseText}
 use Rattle.bb_bundle.specs.ClauseText.TheVariants as texts
 use Rattle.bb_rules.specs.declared.clause.Clause.{Clause}
 use Rattle.bb_rules.specs.declared.clause.Clause.TheVariants as clauses
-use Rattle.bb_rules.specs.declared.fault.ClauseFlaw.{ClauseFlaw}
-use Rattle.bb_rules.specs.declared.fault.ClauseFlaw.TheVariants as flaws
 use Rattle.bb_rules.specs.declared.place.ClauseList.{ClauseList}
 use Rattle.bb_rules.specs.Faults.{at_clause}
 use Rattle.bb_rules.specs.Source.{class_within, clause_of, clauses_of, kind_of, link_slot, ordinary_slot, space_of}
@@ -40,13 +38,13 @@ kept_if true x y e h = same_ok x y h
 kept_if false x y e h = absurd cc
 
 module _ (s : Schema) (class : ℕ) where
-  slot_is : (name : List ℕ) (passes : ℕ → Bool) (slot : ℕ) → (ok_or (slot_named s class name) flaws.Slot >>= λ found. cond (passes found) (Ok found) (Err flaws.Slot)) ≡ Ok slot → slot_named s class name ≡ Some slot
-  slot_is name passes slot h =
-      let one = bind_ok (ok_or (slot_named s class name) flaws.Slot) (λ found. cond (passes found) (Ok found) (Err flaws.Slot)) slot h in
-      ok_or_ok flaws.Slot (slot_named s class name) one.0 one.1 ∙ ap (λ n. Some n) (kept_if (passes one.0) one.0 slot flaws.Slot one.2)
+  slot_is : {E : Type 0} (flaw : E) (name : List ℕ) (passes : ℕ → Bool) (slot : ℕ) → (ok_or (slot_named s class name) flaw >>= λ found. cond (passes found) (Ok found) (Err flaw)) ≡ Ok slot → slot_named s class name ≡ Some slot
+  slot_is flaw name passes slot h =
+      let one = bind_ok (ok_or (slot_named s class name) flaw) (λ found. cond (passes found) (Ok found) (Err flaw)) slot h in
+      ok_or_ok flaw (slot_named s class name) one.0 one.1 ∙ ap (λ n. Some n) (kept_if (passes one.0) one.0 slot flaw one.2)
 
   -- a kind with what was found of a name
-  of_found : (make : ℕ → ChangeKind) (found : Result ℕ ClauseFlaw) (given : Option ℕ) (kind : ChangeKind) → ((n : ℕ) → found ≡ Ok n → given ≡ Some n) → (found >>= λ n. Ok (make n)) ≡ Ok kind → (n : ℕ) × (given ≡ Some n) × (kind ≡ make n)
+  of_found : {E : Type 0} (make : ℕ → ChangeKind) (found : Result ℕ E) (given : Option ℕ) (kind : ChangeKind) → ((n : ℕ) → found ≡ Ok n → given ≡ Some n) → (found >>= λ n. Ok (make n)) ≡ Ok kind → (n : ℕ) × (given ≡ Some n) × (kind ≡ make n)
   of_found make found given kind is h =
       let one = bind_ok found (λ n. Ok (make n)) kind h in
       (one.0, is one.0 one.1, sym (same_ok (make one.0) kind one.2))
@@ -54,17 +52,20 @@ module _ (s : Schema) (class : ℕ) where
   kind_is : (text : ChangeText) (kind : ChangeKind) → kind_of s class text ≡ Ok kind → IsKind s class text kind
   kind_is changes.Create kind h = sym (same_ok kinds.Create kind h)
   kind_is changes.Delete kind h = sym (same_ok kinds.Delete kind h)
-  kind_is (changes.Update name) kind h = of_found kinds.Update (ordinary_slot s class name) (slot_named s class name) kind (slot_is name (λ slot. is_some (default_of s slot))) h
-  kind_is (changes.Link name) kind h = of_found kinds.Link (link_slot s class name) (slot_named s class name) kind (slot_is name (λ slot. is_some (link_of s.slots slot))) h
-  kind_is (changes.Unlink name) kind h = of_found kinds.Unlink (link_slot s class name) (slot_named s class name) kind (slot_is name (λ slot. is_some (link_of s.slots slot))) h
-  kind_is (changes.Enter name) kind h = of_found kinds.Enter (space_of s name) (space_named s name) kind (ok_or_ok flaws.Space (space_named s name)) h
-  kind_is (changes.Leave name) kind h = of_found kinds.Leave (space_of s name) (space_named s name) kind (ok_or_ok flaws.Space (space_named s name)) h
+  kind_is (changes.Update name) kind h = of_found kinds.Update (ordinary_slot s class name) (slot_named s class name) kind (slot_is _ name (λ slot. is_some (default_of s slot))) h
+  kind_is (changes.Link name) kind h = of_found kinds.Link (link_slot s class name) (slot_named s class name) kind (slot_is _ name (λ slot. is_some (link_of s.slots slot))) h
+  kind_is (changes.Unlink name) kind h = of_found kinds.Unlink (link_slot s class name) (slot_named s class name) kind (slot_is _ name (λ slot. is_some (link_of s.slots slot))) h
+  kind_is (changes.Enter name) kind h = of_found kinds.Enter (space_of s name) (space_named s name) kind (ok_or_ok _ (space_named s name)) h
+  kind_is (changes.Leave name) kind h = of_found kinds.Leave (space_of s name) (space_named s name) kind (ok_or_ok _ (space_named s name)) h
 
 module _ (s : Schema) where
+  within_is : {E : Type 0} (flaw : E) (within : ℕ) (name : List ℕ) (class : ℕ) → (ok_or (class_named s name) flaw >>= λ c. cond (descends s c within) (Ok c) (Err flaw)) ≡ Ok class → class_named s name ≡ Some class
+  within_is flaw within name class h =
+      let one = bind_ok (ok_or (class_named s name) flaw) (λ c. cond (descends s c within) (Ok c) (Err flaw)) class h in
+      ok_or_ok flaw (class_named s name) one.0 one.1 ∙ ap (λ n. Some n) (kept_if (descends s one.0 within) one.0 class flaw one.2)
+
   class_is : (within : ℕ) (name : List ℕ) (class : ℕ) → class_within s within name ≡ Ok class → class_named s name ≡ Some class
-  class_is within name class h =
-      let one = bind_ok (ok_or (class_named s name) flaws.Class) (λ c. cond (descends s c within) (Ok c) (Err flaws.Class)) class h in
-      ok_or_ok flaws.Class (class_named s name) one.0 one.1 ∙ ap (λ n. Some n) (kept_if (descends s one.0 within) one.0 class flaws.Class one.2)
+  class_is within name class h = within_is _ within name class h
 
   clause_is : (within : ℕ) (text : ClauseText) (clause : Clause) → clause_of s within text ≡ Ok clause → IsClause s text clause
   clause_is within (texts.Change kind name) clause h =
