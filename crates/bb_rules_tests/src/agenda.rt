@@ -207,20 +207,6 @@ impl Plain {
         self.foci.retain(|focus| focus.0 != unit);
     }
 
-    // Whether numbers are those of a source's activations, or only of those for a unit, in order.
-    fn are_of(&self, numbers: Numbers<'_>, source: u16, unit: Option<UnitId>) -> bool {
-        let mut numbers = numbers;
-        for activation in &self.pending {
-            if activation.source != source || unit.is_some_and(|unit| unit != activation.unit) {
-                continue;
-            }
-            if numbers.next() != Some(activation.number) {
-                return false;
-            }
-        }
-        numbers.next().is_none()
-    }
-
     // Whether an agenda has the same activations, ratings and choice.
     fn agrees(&self, agenda: &Agenda) -> bool {
         let numbers = agenda.pending();
@@ -235,21 +221,6 @@ impl Plain {
             }
         }
         agenda.choose(12) == self.choose(12)
-    }
-
-    // Whether an agenda finds the same activations by source, and by source and unit.
-    fn is_found_in(&self, agenda: &Agenda) -> bool {
-        for source in 0..2 {
-            if !self.are_of(agenda.pending_for(source), source, None) {
-                return false;
-            }
-            for unit in 0..3 {
-                if !self.are_of(agenda.pending_on(source, unit), source, Some(unit)) {
-                    return false;
-                }
-            }
-        }
-        true
     }
 }
 
@@ -333,7 +304,7 @@ fn agree(alloc: Global, times: u64) -> Result<bool, Fail> {
         if agenda.choose(0) != plain.choose(0) {
             return Ok(false);
         }
-        if turn % 32 == 0 && !(plain.agrees(&agenda) && plain.is_found_in(&agenda)) {
+        if turn % 32 == 0 && !plain.agrees(&agenda) {
             return Ok(false);
         }
     }
