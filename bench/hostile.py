@@ -62,7 +62,7 @@ def kick(body):
 
 
 def steady(waiting):
-    """Each cycle deletes a unit and makes two, while others wait behind, or in front, with a lower rating."""
+    """Each cycle deletes a unit and makes two, while others wait, or one in front of them, with a lower rating."""
     slot = {"name": "r", "kind": "int", "default": 1}
     units = [{"name": "u%d" % i, "class": "n", **({"slots": {"r": 0}} if i < waiting else {})} for i in range(waiting + 1)]
     source = (
@@ -216,7 +216,7 @@ def half(size):
 
 ROWS = [
     Row("One activation waits in front", lambda n: steady(1), 65_000, lambda n: ["--limit=%d" % n], lambda n: steady(0), 16_250),
-    Row("Many wait behind one", lambda n: many_wait(n, 0), 65_000, lambda n: ["--limit=20000"], lambda n: many_wait(n, 1), 16_250),
+    Row("Many wait after one", lambda n: many_wait(n, 0), 65_000, lambda n: ["--limit=20000"], lambda n: many_wait(n, 1), 16_250),
     Row("Every second one is obviated", lambda n: obviates(n, "a.x % 2 = 0"), 255, control=lambda n: obviates(n, "true"), quarter=127),
     Row(
         "Asked about the event's own unit",
