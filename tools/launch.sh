@@ -78,7 +78,7 @@ run_released() {
 # `rt try` ends a standard input that is silent for two seconds, so it is given a file, which is in `room`.
 take_input() {
     command -v rt >/dev/null \
-        || fail "there is no rt, the kit's command, on the PATH: README.md tells under 'What is needed'"
+        || fail "there is no rt, the kit's command, on the PATH: see 'Requirements' in README.md"
     say "not built since the last change: the kit compiles it with nothing proved, which usually takes one to three minutes; $build builds a proved program, which answers at once"
     room=$(mktemp -d)
     trap 'rm -rf -- "$room"' EXIT
