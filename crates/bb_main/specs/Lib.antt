@@ -1,5 +1,7 @@
 -- the natives of the program
 pub mod Natives
+-- what a whole command line comes to
+pub mod Obey
 -- what the program writes for an input, and its status
 pub mod Serve
 -- of bb_native: natives, and what a roster of them means

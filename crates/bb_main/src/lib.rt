@@ -13,6 +13,7 @@
 
 mod advising;
 mod leaving;
+mod obeying;
 mod program_native;
 mod refusing;
 mod served;
@@ -22,6 +23,7 @@ mod words;
 pub use bb_main_input::{INPUT_LIMIT, In, Intake};
 pub use bb_main_options::{Mode, Options, OptionsFault, options};
 pub use bb_shell::{Memory, NativeSource, Out, Pipe};
+pub use obeying::obey;
 pub use program_native::{ProgramNative, Trade, program_natives};
 pub use served::Served;
 pub use serving::{program, serve, serve_with};
