@@ -113,7 +113,7 @@ class Inputs:
         said = text_of(self.scope.expanded(row.below))
         at_row = Scope(self.names, self.scope.code, self.scope.expanded(back))
         given = at_row.expanded(self.form)
-        return self.serving.compare(given, REFUSED, line + b"\n", b"bb: " + said if said else None)
+        return self.serving.compare(given, REFUSED, line + b"\n", said or None)
 
 
 class Spelled:

@@ -7,7 +7,7 @@ use crate::reporting::Input;
 use bb_basis::Memory;
 use bb_bundle::BundleFault;
 use bb_code::{Code, CodeFault};
-use bb_diag_text::{begin_line, line_at, note_header, note_input_line, write_whole_line};
+use bb_diag_text::{begin_line, line_at, note_header, write_whole_line};
 use std::alloc::{AllocError, Global};
 use std::fmt::Write;
 
@@ -22,16 +22,16 @@ pub(crate) fn note_bundle(
     let section = input.section("%bundle", bundle);
     match fault {
         BundleFault::Line { line } => {
-            note_input_line(text, section, line)?;
+            section.line(line).note(text, "")?;
             write_whole_line(text, bundle, line)?;
             note_header(text, line_at(bundle, line))
         }
         BundleFault::Hex { line } => {
-            note_input_line(text, section, line)?;
+            section.line(line).note(text, "")?;
             write_whole_line(text, bundle, line)
         }
         BundleFault::Code { line, .. } => {
-            note_input_line(text, section, line)?;
+            section.line(line).note(text, "")?;
             note_byte(alloc, text, line_at(bundle, line))
         }
         BundleFault::Memory => Ok(()),

@@ -1,7 +1,8 @@
 //! The initial units of an input, judged apart from a run. A check (bb_main) does not need them; it adds why they would
 //! be refused, or advice that follows from what they note.
 
-use crate::reporting::{Input, report};
+use crate::heading::Severity;
+use crate::reporting::{Input, write_message};
 use bb_basis::Memory;
 use bb_board::{Board, Note, UnitsFault};
 use bb_refusal::InputFault;
@@ -11,7 +12,7 @@ use std::alloc::Global;
 /// The initial units of an input.
 #[derive(Drop)]
 pub enum FirstUnits {
-    /// They are refused, for this reason in words for people, as from `report`.
+    /// They would be refused: the warning for people, in the form of `report`.
     Refused(String),
     /// They are accepted, and note these changes.
     Noted(Vec<Note>),
@@ -24,7 +25,17 @@ pub fn read_first_units(alloc: Global, input: Input<'_>) -> Result<Option<FirstU
     };
     let units = match notes_of(alloc, schema, input.units) {
         Ok(notes) => FirstUnits::Noted(notes),
-        Err(fault) => FirstUnits::Refused(report(alloc, &InputFault::Units(fault), input)?),
+        Err(fault) => {
+            let mut text = String::new(alloc);
+            write_message(
+                alloc,
+                &mut text,
+                Severity::Warning,
+                &InputFault::Units(fault),
+                input,
+            )?;
+            FirstUnits::Refused(text)
+        }
     };
     Ok(Some(units))
 }

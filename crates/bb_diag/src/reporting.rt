@@ -2,14 +2,16 @@
 
 use crate::bundle_notes::note_bundle;
 use crate::code_notes::{Found, note_code};
+use crate::heading::{Label, Severity, label_of, located, location_of, write_head, write_sentence};
+use crate::others::others_than;
 use crate::rule_notes::{clause_of, note_rule};
-use crate::schema_notes::note_schema;
-use crate::units_notes::note_units;
 use bb_basis::Memory;
+use bb_compile::LangFault;
 use bb_compile_scope::{CompileFault, Place};
+use bb_diag_documents::{note_schema, note_units};
 use bb_diag_meaning::{Found as Statement, Reason, explain_clause, explain_statement};
 use bb_diag_syntax::explain;
-use bb_diag_text::{Section, note_input_line, write_excerpt};
+use bb_diag_text::{Piece, Section, write_excerpt};
 use bb_refusal::InputFault;
 use bb_schema::Schema;
 use std::alloc::Global;
@@ -42,69 +44,170 @@ impl<'a> Input<'a> {
     }
 }
 
-/// Explains to people why an input is refused. First comes the sentence of the fault; for a text of sources, this has
-/// what was found and what was expected. Then comes, on separate lines, what can be shown of the location: names, the
-/// line of a text with a caret under the column, or what an op found and what it needs. The text does not end in a line
-/// feed. `Memory`: memory ran out.
+/// What messages on a text of sources are looked up in.
+#[derive(Clone, Copy)]
+pub(crate) struct Context<'a> {
+    pub(crate) alloc: Global,
+    /// The schema, unless it can't be read.
+    pub(crate) schema: Option<&'a Schema>,
+    pub(crate) input: Input<'a>,
+}
+
+/// Explains to people why an input is refused. First comes the head: where the fault is, as editors read it, and its
+/// number. Then comes the sentence of the fault; for a text of sources, this has what was found and what was expected.
+/// Below it, on separate lines, is what can be shown of the location: names, the line of a text with a caret under the
+/// column, or what an op found and what it needs. If the fault is in the text of sources, messages on the faults of its
+/// other sources follow, as memory allows. The text does not end in a line feed. `Memory`: memory ran out.
 pub fn report(alloc: Global, fault: &InputFault, input: Input<'_>) -> Result<String, Memory> {
     let mut text = String::new(alloc);
-    let Some(reason) = reason_of(alloc, fault, input)? else {
-        write!(text, "{fault}")?;
-        note(alloc, &mut text, fault, input)?;
+    if !is_of_sources(fault) {
+        write_message(alloc, &mut text, Severity::Error, fault, input)?;
         return Ok(text);
-    };
-    match fault {
-        InputFault::Compile { name, .. } | InputFault::Rule { name, .. } => {
-            write!(text, "source {}", name.as_str())?;
-        }
-        _ => text.push_str("sources")?,
     }
-    let (line, column) = (reason.place.line, reason.place.column);
-    write!(text, ", line {line}, column {column}: ")?;
-    text.push_str(reason.text.as_str())?;
-    note_place(&mut text, input, reason.place)?;
+    let schema = Schema::read(alloc, input.schema).ok();
+    let context = Context {
+        alloc,
+        schema: schema.as_ref(),
+        input,
+    };
+    let whole = Piece::whole(input.sources);
+    if let Some(place) = write_fault(&mut text, context, fault, whole)? {
+        if let Ok(others) = others_than(context, place) {
+            text.push_str(others.as_str())?;
+        }
+    }
     Ok(text)
 }
 
-// Appends the line at a location of the text of sources.
-fn note_place(text: &mut String, input: Input<'_>, place: Place) -> Result<(), Memory> {
-    note_input_line(text, input.text_of_sources(), place.line)?;
-    write_excerpt(text, input.sources, place.line, place.column)
+/// Says why an input is refused, in one line: the head and the general sentence of the fault. `Memory`: memory ran out.
+pub fn brief(alloc: Global, fault: &InputFault) -> Result<String, Memory> {
+    let mut text = String::new(alloc);
+    if let Some(label) = label_of(fault) {
+        write_head(&mut text, None, Severity::Error, label)?;
+    }
+    write!(text, "{fault}")?;
+    Ok(text)
 }
 
-// Returns where in the text of sources a fault is, and what is wrong there, if there is anything to add to the fault's
-// own sentence.
-fn reason_of(
+// Returns whether a fault may be in the text of sources.
+fn is_of_sources(fault: &InputFault) -> bool {
+    matches!(
+        fault,
+        InputFault::Lang(_) | InputFault::Compile { .. } | InputFault::Rule { .. }
+    )
+}
+
+/// Appends the message on a fault, by its general sentence.
+pub(crate) fn write_message(
     alloc: Global,
+    text: &mut String,
+    severity: Severity,
     fault: &InputFault,
     input: Input<'_>,
-) -> Result<Option<Reason>, Memory> {
-    match fault {
-        InputFault::Lang(lang) => Ok(placed(fault, explain(alloc, input.sources, *lang)?)),
-        InputFault::Compile { .. } | InputFault::Rule { .. } => {
-            let Ok(schema) = Schema::read(alloc, input.schema) else {
-                return Ok(None);
-            };
-            reason_under(alloc, &schema, fault, input.sources)
+) -> Result<(), Memory> {
+    if let Some(label) = label_of(fault) {
+        let location = location_of(alloc, fault, input)?;
+        write_head(text, location, severity, label)?;
+    }
+    write_sentence(alloc, text, fault)?;
+    note(alloc, text, fault, input)
+}
+
+/// Appends the message on a fault of a source in a piece of the text of sources, which may have the place of a word of
+/// the statement at fault. Returns the location of the fault itself, if it is in the text.
+pub(crate) fn write_fault(
+    text: &mut String,
+    context: Context<'_>,
+    fault: &InputFault,
+    piece: Piece<'_>,
+) -> Result<Option<Place>, Memory> {
+    match (reason_of(context, fault, piece)?, label_of(fault)) {
+        (Some(reason), Some(label)) => {
+            write_reason(text, context, label, source_of(fault), &reason)?;
+            Ok(fault.place().or(Some(reason.place)))
         }
-        _ => Ok(None),
+        _ => {
+            write_message(context.alloc, text, Severity::Error, fault, context.input)?;
+            Ok(fault.place())
+        }
     }
 }
 
-// Combines a reason with the location of a fault.
-fn placed(fault: &InputFault, text: Option<String>) -> Option<Reason> {
-    match (fault.place(), text) {
-        (Some(place), Some(text)) => Some(Reason { place, text }),
+// Returns the name of the source that a fault is in; empty if it is not known.
+fn source_of(fault: &InputFault) -> &str {
+    match fault {
+        InputFault::Compile { name, .. } | InputFault::Rule { name, .. } => name.as_str(),
+        _ => "",
+    }
+}
+
+/// Appends the message on a fault in the text of sources: where it is, what is wrong, and its line. `source` is the name
+/// of its source, empty if that is not known.
+pub(crate) fn write_reason(
+    text: &mut String,
+    context: Context<'_>,
+    label: Label,
+    source: &str,
+    reason: &Reason,
+) -> Result<(), Memory> {
+    let location = located(context.input, reason.place);
+    write_head(text, Some(location), Severity::Error, label)?;
+    text.push_str(reason.text.as_str())?;
+    note_place(text, context.input, source, reason.place)
+}
+
+// Appends the line at a location of the text of sources.
+fn note_place(
+    text: &mut String,
+    input: Input<'_>,
+    source: &str,
+    place: Place,
+) -> Result<(), Memory> {
+    let line = input.text_of_sources().line(place.line);
+    if source.is_empty() {
+        line.note(text, "")?;
+    } else {
+        let called = format!(in *text.allocator(); "source {source}")?;
+        line.note(text, called.as_str())?;
+    }
+    write_excerpt(text, input.sources, place.line, place.column)
+}
+
+// Returns where in a piece of the text of sources a fault is, and what is wrong there, if there is anything to add to
+// the fault's own sentence.
+fn reason_of(
+    context: Context<'_>,
+    fault: &InputFault,
+    piece: Piece<'_>,
+) -> Result<Option<Reason>, Memory> {
+    match (fault, context.schema) {
+        (InputFault::Lang(lang), _) => {
+            let text = explain(context.alloc, context.input.sources, piece, *lang)?;
+            Ok(placed(*lang, fault.place(), text))
+        }
+        (_, Some(schema)) => reason_under(context.alloc, schema, fault, piece),
+        (_, None) => Ok(None),
+    }
+}
+
+// Combines the text on a fault with its location.
+fn placed(fault: LangFault, place: Option<Place>, text: Option<String>) -> Option<Reason> {
+    match (place, text) {
+        (Some(place), Some(text)) => Some(Reason {
+            place,
+            number: fault.number(),
+            text,
+        }),
         _ => None,
     }
 }
 
-// Returns what is wrong, under a schema, with a statement or a clause of the text of sources.
+// Returns what is wrong, under a schema, with a statement or a clause of a piece of the text of sources.
 fn reason_under(
     alloc: Global,
     schema: &Schema,
     fault: &InputFault,
-    sources: &str,
+    piece: Piece<'_>,
 ) -> Result<Option<Reason>, Memory> {
     match fault {
         InputFault::Compile {
@@ -116,12 +219,11 @@ fn reason_under(
                 flaw: *flaw,
                 place: *place,
             };
-            let text = explain_statement(alloc, schema, sources, found)?;
-            Ok(placed(fault, text))
+            explain_statement(alloc, schema, piece, found)
         }
         InputFault::Rule { name, fault: rule } => match clause_of(name.as_str(), *rule) {
             None => Ok(None),
-            Some(clause) => explain_clause(alloc, schema, sources, clause),
+            Some(clause) => explain_clause(alloc, schema, piece, clause),
         },
         _ => Ok(None),
     }
@@ -144,7 +246,7 @@ fn note(
         }
         InputFault::Lang(_) | InputFault::Compile { .. } => match fault.place() {
             None => Ok(()),
-            Some(place) => note_place(text, input, place),
+            Some(place) => note_place(text, input, source_of(fault), place),
         },
         InputFault::Bundle(fault) => note_bundle(alloc, text, *fault, input),
         InputFault::Verify { name, part, fault } => {

@@ -4,12 +4,20 @@
 use crate::reporting::Input;
 use bb_basis::Memory;
 use bb_diag_meaning::Clause;
-use bb_diag_text::{begin_line, write_input_line, write_whole_line};
+use bb_diag_text::write_whole_line;
 use bb_rules::{ClassPlace, ClauseList, ClausePlace, RuleFault};
-use std::fmt::Write;
 
-/// Appends the line of the bundle with the clause or class that a source is refused for, if there is one; nothing
-/// unless exactly one source has the name.
+/// Returns the line of a bundle with the clause or class that a source is refused for, if there is one; none unless
+/// exactly one source has the name.
+pub(crate) fn rule_line(name: &str, fault: RuleFault, bundle: &str) -> Option<u64> {
+    let place = place_of(fault)?;
+    if bundle.lines().filter(|line| is_header(line, name)).count() != 1 {
+        return None;
+    }
+    line_of(bundle, name, place)
+}
+
+/// Appends the line of the bundle with the clause or class that a source is refused for, if there is one.
 pub(crate) fn note_rule(
     text: &mut String,
     name: &str,
@@ -17,18 +25,10 @@ pub(crate) fn note_rule(
     input: Input<'_>,
 ) -> Result<(), Memory> {
     let bundle = input.bundle;
-    let Some(place) = place_of(fault) else {
-        return Ok(());
-    };
-    if bundle.lines().filter(|line| is_header(line, name)).count() != 1 {
-        return Ok(());
-    }
-    match line_of(bundle, name, place) {
+    match rule_line(name, fault, bundle) {
         None => Ok(()),
         Some(line) => {
-            begin_line(text)?;
-            write!(text, "line {line} of the bundle")?;
-            write_input_line(text, input.section("%bundle", bundle), line)?;
+            input.section("%bundle", bundle).line(line).note(text, "")?;
             write_whole_line(text, bundle, line)
         }
     }

@@ -1,13 +1,20 @@
 //! The message on a clause of a source that does not fit its class: where it is, and what is wrong with it.
 
-use crate::scope::{Judge, until_end, word_at};
 use crate::unknown::{write_no_class, write_no_slot_of, write_no_space};
 use bb_basis::Memory;
 use bb_compile_scope::{ClassId, Place};
-use bb_diag_text::{Token, source_tokens};
+use bb_diag_scope::{Judge, until_end, word_at};
+use bb_diag_text::{Piece, Token, source_tokens};
 use bb_schema::Schema;
 use std::alloc::Global;
 use std::fmt::Write;
+
+// The numbers of the faults that a clause can have.
+const SLOT: u8 = 1;
+
+const SPACE: u8 = 2;
+
+const CLASS: u8 = 5;
 
 /// A clause of a source.
 #[derive(Clone, Copy, Debug)]
@@ -20,10 +27,12 @@ pub struct Clause<'a> {
     pub index: usize,
 }
 
-/// Where a clause is, and what is wrong with it.
+/// Where a clause or a statement is at fault, and what is wrong with it.
 #[derive(Drop)]
 pub struct Reason {
     pub place: Place,
+    /// The number of the fault: of a clause 1 slot, 2 space, 5 class.
+    pub number: u8,
     pub text: String,
 }
 
@@ -61,17 +70,56 @@ fn class_before<'a>(tokens: &[Token<'a>], index: usize) -> &'a str {
 }
 
 /// Explains what is wrong with a clause of a text of sources; `None` if the text lacks the clause or nothing wrong is
-/// found. `Memory`: memory ran out.
+/// found. The source is the first one with the name in a piece of a text. `Memory`: memory ran out.
 pub fn explain_clause(
     alloc: Global,
     schema: &Schema,
-    sources: &str,
+    piece: Piece<'_>,
     clause: Clause<'_>,
 ) -> Result<Option<Reason>, Memory> {
-    let tokens = source_tokens(alloc, sources, clause.source)?;
+    let tokens = source_tokens(alloc, piece, clause.source)?;
     let Some(index) = position_of(tokens.as_slice(), clause) else {
         return Ok(None);
     };
+    let own = class_before(tokens.as_slice(), index);
+    reason_at(alloc, schema, tokens.as_slice(), index, own)
+}
+
+/// Explains what is wrong with the first clause of a source that does not fit; `None` if all fit. The source is the
+/// first one with the name in a piece of a text. `Memory`: memory ran out.
+pub fn explain_clauses(
+    alloc: Global,
+    schema: &Schema,
+    piece: Piece<'_>,
+    name: &str,
+) -> Result<Option<Reason>, Memory> {
+    let tokens = source_tokens(alloc, piece, name)?;
+    let mut own = "";
+    let mut before = "";
+    for (index, token) in tokens.iter().enumerate() {
+        if token.is("on") && before != "." {
+            own = word_at(tokens.as_slice(), index.saturating_add(1));
+        }
+        if token.is("when") && before != "." {
+            let found = reason_at(alloc, schema, tokens.as_slice(), index, own)?;
+            if found.is_some() {
+                return Ok(found);
+            }
+        }
+        before = token.text;
+    }
+    Ok(None)
+}
+
+// Returns where the clause at an index of tokens is, and what is wrong with it, if anything is. `own` is the class of
+// its source or reaction.
+fn reason_at(
+    alloc: Global,
+    schema: &Schema,
+    tokens: &[Token<'_>],
+    index: usize,
+    own: &str,
+) -> Result<Option<Reason>, Memory> {
     let Some(first) = tokens.get(index) else {
         return Ok(None);
     };
@@ -79,43 +127,55 @@ pub fn explain_clause(
         line: first.line,
         column: first.column,
     };
-    let own = class_before(tokens.as_slice(), index);
-    let event = until_end(tokens.as_slice().get(index..).unwrap_or(&[]));
+    let event = until_end(tokens.get(index..).unwrap_or(&[]));
     let mut text = String::new(alloc);
-    write_clause(&mut text, &Judge::of(alloc, schema), own, event)?;
+    let number = write_clause(&mut text, &Judge::of(alloc, schema), own, event)?;
     if text.is_empty() {
         return Ok(None);
     }
-    Ok(Some(Reason { place, text }))
+    Ok(Some(Reason {
+        place,
+        number,
+        text,
+    }))
 }
 
-// Appends what is wrong with a clause; `own` is the class of its source or reaction.
+// Appends what is wrong with a clause, and returns the number of that fault; `own` is the class of its source or
+// reaction.
 fn write_clause(
     text: &mut String,
     judge: &Judge<'_, '_>,
     own: &str,
     event: &[Token<'_>],
-) -> Result<(), Memory> {
+) -> Result<u8, Memory> {
     let name = word_at(event, 2);
+    let word = word_at(event, 1);
+    if word == "quiescence" {
+        return Ok(CLASS);
+    }
     let Some(class) = judge.schema.class(name) else {
         let _found = write_no_class(text, judge, name)?;
-        return Ok(());
+        return Ok(CLASS);
     };
     if let Some(above) = judge.schema.class(own) {
         if !judge.schema.descends(class, above) {
-            return write!(
+            write!(
                 text,
                 "class {name} is neither {own}, which stands behind \"on\", nor below it"
-            );
+            )?;
+            return Ok(CLASS);
         }
     }
-    match word_at(event, 1) {
-        word @ ("update" | "link" | "unlink") => write_slot(text, judge, class, event, word),
+    match word {
+        "update" | "link" | "unlink" => {
+            write_slot(text, judge, class, event, word)?;
+            Ok(SLOT)
+        }
         "enter" | "leave" => {
             let _found = write_no_space(text, judge, word_at(event, 3))?;
-            Ok(())
+            Ok(SPACE)
         }
-        _ => Ok(()),
+        _ => Ok(CLASS),
     }
 }
 

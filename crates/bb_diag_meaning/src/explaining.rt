@@ -1,13 +1,14 @@
 //! The message on a fault of a source's code. Reports (bb_diag) call it.
 
+use crate::clauses::Reason;
 use crate::mismatch::write_mismatch;
 use crate::others::{write_effect, write_end, write_limit};
-use crate::scope::{Judge, Statement};
 use crate::units::{write_gone, write_space, write_wrong_class};
 use crate::unknown::write_unknown;
 use bb_basis::Memory;
 use bb_compile_scope::{Place, TextFlaw};
-use bb_diag_text::source_tokens;
+use bb_diag_scope::{Judge, Statement};
+use bb_diag_text::{Piece, source_tokens};
 use bb_schema::Schema;
 use std::alloc::Global;
 
@@ -23,15 +24,16 @@ pub struct Found<'a> {
     pub place: Place,
 }
 
-/// Explains what is wrong with the statement at the location of a fault, without a line feed; `None` if there is
-/// nothing to add to the fault's own sentence. `Memory`: memory ran out.
+/// Explains what is wrong with the statement at the location of a fault: the word at fault, or else the statement, and a
+/// text without a line feed; `None` if there is nothing to add to the fault's own sentence. The source is the first one
+/// with the name in a piece of a text. `Memory`: memory ran out.
 pub fn explain_statement(
     alloc: Global,
     schema: &Schema,
-    sources: &str,
+    piece: Piece<'_>,
     found: Found<'_>,
-) -> Result<Option<String>, Memory> {
-    let tokens = source_tokens(alloc, sources, found.name)?;
+) -> Result<Option<Reason>, Memory> {
+    let tokens = source_tokens(alloc, piece, found.name)?;
     let Some(statement) = Statement::at(tokens.as_slice(), found.place) else {
         return Ok(None);
     };
@@ -40,10 +42,11 @@ pub fn explain_statement(
     }
     let judge = Judge::before(alloc, schema, statement)?;
     let mut text = String::new(alloc);
+    let mut word = None;
     match found.flaw {
-        TextFlaw::Unknown => write_unknown(&mut text, &judge, statement)?,
+        TextFlaw::Unknown => word = write_unknown(&mut text, &judge, statement)?,
         TextFlaw::Kind => write_mismatch(&mut text, &judge, statement)?,
-        TextFlaw::DeadName => write_gone(&mut text, &judge, statement)?,
+        TextFlaw::DeadName => word = write_gone(&mut text, &judge, statement)?,
         TextFlaw::LinkClass => write_wrong_class(&mut text, &judge, statement)?,
         TextFlaw::Space => write_space(&mut text, &judge, statement)?,
         TextFlaw::Effect => write_effect(&mut text, &judge, statement)?,
@@ -53,5 +56,9 @@ pub fn explain_statement(
     if text.is_empty() {
         return Ok(None);
     }
-    Ok(Some(text))
+    Ok(Some(Reason {
+        place: word.unwrap_or(found.place),
+        number: found.flaw.number(),
+        text,
+    }))
 }

@@ -3,10 +3,10 @@
 //!
 //! - In: a schema, a text of sources, the name of the source, and its fault.
 //! - Out: `explain_statement`, and `explain_clause` for a clause: the message, if there is anything to add to the
-//!   fault's number.
+//!   fault's number; `explain_clauses`, the message on the first clause of a source that does not fit.
 //! - Callers rely on: messages are for people. The statement is examined again, by its tokens and by what the names
 //!   before it hold; if nothing wrong is found, there is no message.
-//! - Family: scope has what is known at a statement; bb_compile_scope has the rules of slots and kinds.
+//! - Family: bb_diag_scope has what is known at a statement; bb_compile_scope has the rules of slots and kinds.
 //! - Cases: `sentences`.
 #![tactic(auto)]
 
@@ -15,9 +15,8 @@ mod explaining;
 mod mismatch;
 mod operations;
 mod others;
-pub mod scope;
 mod units;
 mod unknown;
 
-pub use clauses::{Clause, Reason, explain_clause};
+pub use clauses::{Clause, Reason, explain_clause, explain_clauses};
 pub use explaining::{Found, explain_statement};

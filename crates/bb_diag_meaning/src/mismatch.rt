@@ -1,10 +1,10 @@
 //! The message on a value, name or slot of the wrong kind, for each statement.
 
 use crate::operations::{write_due, write_looped, write_no_unit, write_operands};
-use crate::scope::{Judge, Statement, kind_of, position_of, word_at, write_kind, write_value};
 use bb_basis::Memory;
 use bb_code::Kind;
 use bb_compile_scope::{assigned, class_of, link_slot, partner_slot, value_slot};
+use bb_diag_scope::{Judge, Statement, kind_of, position_of, word_at, write_kind, write_value};
 use bb_diag_text::Token;
 use std::fmt::Write;
 
@@ -96,6 +96,9 @@ fn write_assigned(
     write_value(text, value)?;
     text.push_str(" is ")?;
     write_kind(text, judge, kind)?;
+    if class_of(held).is_some() && class_of(kind).is_some() {
+        text.push_str(": a name holds units of the class that it began with, or below it")?;
+    }
     Ok(true)
 }
 

@@ -1,13 +1,13 @@
 //! Operands of the wrong kind. The message on a mismatch searches values for them.
 
-use crate::scope::{
-    COMPARISONS, Judge, LOGIC, SUMS, kind_of, position_of, word_at, write_kind, write_value,
-};
-use crate::unknown::is_relation;
+use crate::unknown::{is_relation, set_with};
 use bb_basis::Memory;
 use bb_code::Kind;
 use bb_compile_scope::{assigned, class_of, equality, link_slot, value_slot};
-use bb_diag_text::Token;
+use bb_diag_scope::{
+    COMPARISONS, Judge, LOGIC, SUMS, kind_of, position_of, word_at, write_kind, write_value,
+};
+use bb_diag_text::{Token, TokenKind};
 use std::fmt::Write;
 
 /// Appends that a value has a kind other than `due`, if that is known. Returns whether it does.
@@ -29,7 +29,32 @@ pub(crate) fn write_due(
     write_value(text, value)?;
     text.push_str(" is ")?;
     write_kind(text, judge, kind)?;
+    if matches!(due, Kind::Label(_)) {
+        write_label_of(text, judge, value)?;
+    }
     Ok(true)
+}
+
+// Appends how the label is written that a text has the name of, if the value is such a text.
+fn write_label_of(
+    text: &mut String,
+    judge: &Judge<'_, '_>,
+    value: &[Token<'_>],
+) -> Result<(), Memory> {
+    let [token] = value else {
+        return Ok(());
+    };
+    let name = token
+        .text
+        .get(1..token.text.len().saturating_sub(1))
+        .unwrap_or("");
+    if token.kind != TokenKind::Text {
+        return Ok(());
+    }
+    match set_with(judge.schema, name) {
+        None => Ok(()),
+        Some(set) => write!(text, ": a label is written {set}:{name}"),
+    }
 }
 
 // Values whose operands are still to be examined.
@@ -143,10 +168,26 @@ fn write_equality(
     if matches!(one, Kind::Any) || matches!(other, Kind::Any) || equality(one, other).is_some() {
         return Ok(false);
     }
-    text.push_str("\"=\" compares two of one kind, and these are ")?;
-    write_kind(text, judge, one)?;
-    text.push_str(" and ")?;
-    write_kind(text, judge, other)?;
+    match (one, other) {
+        (Kind::Bool, Kind::Bool) => {
+            text.push_str("\"=\" compares no truth values: write the value alone, or not(..)")?;
+        }
+        (Kind::Interval, Kind::Interval) => {
+            text.push_str("\"=\" compares no intervals: compare low(..) and high(..)")?;
+        }
+        _ => {
+            text.push_str("\"=\" compares two of one kind, and these are ")?;
+            write_kind(text, judge, one)?;
+            text.push_str(" and ")?;
+            write_kind(text, judge, other)?;
+        }
+    }
+    if matches!(one, Kind::Label(_)) {
+        write_label_of(text, judge, right)?;
+    }
+    if matches!(other, Kind::Label(_)) {
+        write_label_of(text, judge, left)?;
+    }
     Ok(true)
 }
 

@@ -1,9 +1,10 @@
 //! The messages on units: one that may be gone, and one whose class a link slot or a space does not accept.
 
-use crate::scope::{Judge, Statement, admitted_names, owning_path, word_at, write_names};
+use crate::unknown::place_of;
 use bb_basis::Memory;
 use bb_code::Kind;
-use bb_compile_scope::{ClassId, link_slot};
+use bb_compile_scope::{ClassId, Place, link_slot};
+use bb_diag_scope::{Judge, Statement, admitted_names, owning_path, word_at, write_names};
 use bb_diag_text::Token;
 use std::fmt::Write;
 
@@ -20,24 +21,24 @@ fn is_used(tokens: &[Token<'_>], index: usize) -> bool {
     }
 }
 
-/// Appends which unit may be gone, and why.
+/// Appends which unit may be gone, and why, and returns where its name is.
 pub(crate) fn write_gone(
     text: &mut String,
     judge: &Judge<'_, '_>,
     statement: Statement<'_, '_>,
-) -> Result<(), Memory> {
+) -> Result<Option<Place>, Memory> {
     let tokens = statement.tokens();
     for (index, token) in tokens.iter().enumerate() {
         if is_used(tokens, index) && write_old(text, judge, token.text)? {
-            return Ok(());
+            return Ok(Some(place_of(token)));
         }
     }
     for (index, token) in tokens.iter().enumerate() {
         if is_used(tokens, index) && write_looped(text, judge, statement, token.text)? {
-            return Ok(());
+            return Ok(Some(place_of(token)));
         }
     }
-    Ok(())
+    Ok(None)
 }
 
 // Appends that a name's unit may be gone, if the name is old.

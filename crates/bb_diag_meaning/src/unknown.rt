@@ -1,13 +1,13 @@
 //! The message on an unknown name: what it should name, and which names there are.
 
-use crate::scope::{
+use bb_basis::Memory;
+use bb_compile_scope::{ClassId, Place};
+use bb_diag_scope::{
     Judge, Statement, class_names, dim_names, label_names, slot_names, space_names, word_at,
     write_names,
 };
-use bb_basis::Memory;
-use bb_compile_scope::ClassId;
 use bb_diag_text::{Token, TokenKind, is_reserved, write_phrase, write_quoted};
-use bb_schema::SpaceId;
+use bb_schema::{LabelSetId, Schema, SpaceId};
 use std::fmt::Write;
 
 // What a word of a statement names.
@@ -69,19 +69,27 @@ fn role_of(tokens: &[Token<'_>], index: usize) -> Role {
     Role::Name
 }
 
-/// Appends which name of a statement is unknown.
+/// Appends which name of a statement is unknown, and returns where it is.
 pub(crate) fn write_unknown(
     text: &mut String,
     judge: &Judge<'_, '_>,
     statement: Statement<'_, '_>,
-) -> Result<(), Memory> {
+) -> Result<Option<Place>, Memory> {
     let tokens = statement.tokens();
     for (index, token) in tokens.iter().enumerate() {
         if token.kind == TokenKind::Word && write_missing(text, judge, tokens, index)? {
-            return Ok(());
+            return Ok(Some(place_of(token)));
         }
     }
-    Ok(())
+    Ok(None)
+}
+
+/// Returns where a token begins.
+pub(crate) fn place_of(token: &Token<'_>) -> Place {
+    Place {
+        line: token.line,
+        column: token.column,
+    }
 }
 
 // Appends that the name at an index is unknown, if it is.
@@ -106,7 +114,10 @@ fn write_missing(
                 |space| write_no_dim(text, judge, space, word, relation),
             )
         }
-        Role::Name => write_no_name(text, judge, word),
+        Role::Name => {
+            let behind = tokens.get(index.saturating_add(1)..).unwrap_or(&[]);
+            write_no_name(text, judge, word, behind)
+        }
         Role::Other => Ok(false),
     }
 }
@@ -263,10 +274,29 @@ fn write_no_dim(
     Ok(true)
 }
 
-// Appends that a name is not in scope.
-fn write_no_name(text: &mut String, judge: &Judge<'_, '_>, name: &str) -> Result<bool, Memory> {
+// Returns whether a name and the tokens after it are a label, written with a `.`.
+fn is_dotted_label(judge: &Judge<'_, '_>, name: &str, behind: &[Token<'_>]) -> bool {
+    match (judge.schema.label_set(name), behind) {
+        (Some(set), [dot, label, ..]) if dot.is(".") => {
+            judge.schema.label(set, label.text).is_some()
+        }
+        _ => false,
+    }
+}
+
+// Appends that a name is not in scope, given the tokens after it.
+fn write_no_name(
+    text: &mut String,
+    judge: &Judge<'_, '_>,
+    name: &str,
+    behind: &[Token<'_>],
+) -> Result<bool, Memory> {
     if judge.find(name).is_some() {
         return Ok(false);
+    }
+    if is_dotted_label(judge, name, behind) {
+        write!(text, "a label is written {name}:{}", word_at(behind, 1))?;
+        return Ok(true);
     }
     match name {
         "ev" => text.push_str("\"ev\" is there in obviate and retrigger alone")?,
@@ -281,13 +311,27 @@ fn write_no_name(text: &mut String, judge: &Judge<'_, '_>, name: &str) -> Result
     Ok(true)
 }
 
+/// Returns the name of the label set that has a label; `SET` if several have it, and `None` if none has.
+pub(crate) fn set_with<'s>(schema: &'s Schema, label: &str) -> Option<&'s str> {
+    let mut found = None;
+    for set in 0..schema.label_set_count() {
+        let set = set as LabelSetId;
+        if schema.label(set, label).is_some() {
+            if found.is_some() {
+                return Some("SET");
+            }
+            found = schema.label_set_name(set);
+        }
+    }
+    found
+}
+
 // Appends what a name that is not in scope may be meant to be, or else the names in scope.
 fn write_hint(text: &mut String, judge: &Judge<'_, '_>, name: &str) -> Result<(), Memory> {
     write_quoted(text, name)?;
     text.push_str(" is no name here")?;
-    let sets = judge.schema.label_set_count();
-    if (0..sets).any(|set| judge.schema.label(set as u16, name).is_some()) {
-        return write!(text, ": a label is written SET:{name}");
+    if let Some(set) = set_with(judge.schema, name) {
+        return write!(text, ": a label is written {set}:{name}");
     }
     if judge.schema.class(name).is_some() {
         return write!(

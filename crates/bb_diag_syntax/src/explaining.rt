@@ -2,9 +2,10 @@
 
 use crate::characters::write_character;
 use crate::limits::{write_limit, write_nesting, write_twice};
+use crate::slips::write_slip;
 use crate::tokens::write_token;
 use bb_basis::Memory;
-use bb_diag_text::look;
+use bb_diag_text::{Piece, Spot, TokenKind, look, write_phrase};
 use bb_lang_tree::{LangFault, Place};
 use std::alloc::Global;
 
@@ -30,13 +31,19 @@ fn kind_of(fault: LangFault) -> Option<(Kind, Place)> {
     }
 }
 
-/// Explains what is wrong at the location of a text's fault, without a line feed; `None` if there is nothing to add to
-/// the fault's own sentence. `Memory`: memory ran out.
-pub fn explain(alloc: Global, source: &str, fault: LangFault) -> Result<Option<String>, Memory> {
+/// Explains what is wrong at the location of a fault in a piece of a text, without a line feed; `None` if there is
+/// nothing to add to the fault's own sentence. The location is that in the whole text, `source`. `Memory`: memory ran
+/// out.
+pub fn explain(
+    alloc: Global,
+    source: &str,
+    piece: Piece<'_>,
+    fault: LangFault,
+) -> Result<Option<String>, Memory> {
     let Some((kind, place)) = kind_of(fault) else {
         return Ok(None);
     };
-    let spot = look(alloc, source, place.line, place.column)?;
+    let spot = look(alloc, piece, place.line, place.column)?;
     let mut text = String::new(alloc);
     match kind {
         Kind::Character => write_character(&mut text, &spot, source)?,
@@ -49,4 +56,19 @@ pub fn explain(alloc: Global, source: &str, fault: LangFault) -> Result<Option<S
         return Ok(None);
     }
     Ok(Some(text))
+}
+
+/// Explains what to write instead of an operator of another language, without a line feed. `Memory`: memory ran out.
+pub fn explain_operator(alloc: Global, source: &str, spot: &Spot<'_>) -> Result<String, Memory> {
+    let mut text = String::new(alloc);
+    if write_slip(&mut text, spot)? {
+        return Ok(text);
+    }
+    if spot.at.kind == TokenKind::Other {
+        write_character(&mut text, spot, source)?;
+    } else {
+        write_phrase(&mut text, "no", spot.at.text)?;
+        text.push_str(" stands here")?;
+    }
+    Ok(text)
 }

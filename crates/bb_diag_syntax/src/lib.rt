@@ -1,7 +1,8 @@
 //! Syntax error messages: what was found, what was expected, and the fix, also for habits from other languages.
 //!
 //! - In: a text of sources, and its fault.
-//! - Out: `explain`, the message, if there is anything to add to the fault's number.
+//! - Out: `explain`, the message, if there is anything to add to the fault's number; `explain_operator`, the message on
+//!   an operator of another language.
 //! - Callers rely on: messages are for people. Only lack of memory makes it fail.
 //! - Family: bb_diag_text gives what could come at a location.
 //! - Cases: `sentences`.
@@ -17,4 +18,4 @@ mod tokens;
 mod value_slips;
 mod words;
 
-pub use explaining::explain;
+pub use explaining::{explain, explain_operator};

@@ -7,6 +7,9 @@ use std::fmt::Write;
 // The words of a source's parts, in order.
 const PARTS: &str = "when rate require obviate retrigger revalidate do native";
 
+// What a source has that does two things.
+const ONE_ACT: &str = "a source has \"do\" or \"native\"";
+
 // Returns the position of a part in the order, if the word begins one.
 fn rank_of(word: &str) -> Option<usize> {
     PARTS.split(' ').position(|part| part == word)
@@ -42,23 +45,20 @@ pub(crate) fn write_order(text: &mut String, spot: &Spot<'_>) -> Result<bool, Me
     } else if spot.parts.iter().any(|it| *it == part) {
         write!(text, "a source has one \"{part}\"")?;
     } else if let Some(behind) = part_behind(spot, rank) {
-        if behind == "do" {
-            write_before_act(text, part)?;
+        if is_act(part) && is_act(behind) {
+            text.push_str(ONE_ACT)?;
         } else {
             write!(text, "\"{part}\" stands before \"{behind}\"")?;
         }
     } else {
-        text.push_str("a source has \"do\" or \"native\"")?;
+        text.push_str(ONE_ACT)?;
     }
     Ok(true)
 }
 
-// Appends that a part comes before `do`, or replaces it.
-fn write_before_act(text: &mut String, part: &str) -> Result<(), Memory> {
-    if part == "native" {
-        return text.push_str("a source has \"do\" or \"native\"");
-    }
-    write!(text, "\"{part}\" stands before \"do\"")
+// Returns whether a part is what a source does.
+fn is_act(part: &str) -> bool {
+    part == "do" || part == "native"
 }
 
 // Appends what is missing before the first part of a source.

@@ -2,6 +2,7 @@
 
 /// Mistakes in patterns.
 pub(crate) const PATTERN_SLIPS: &str = r#"
+* | within INT @ . . | * | an interval stands in square brackets: within [a, b]
 * | @ > = | a relation | there is no ">=": write not($before less [E, E])
 * | @ > | a relation | there is no ">": write $before more [E, E]
 * | @ < | a relation | a dimension is tested by a word: write $before less [E, E]
@@ -24,6 +25,7 @@ where | @ is | an operator | patterns are joined by and(P, P), in front of both
 * | @ overlaps | an operator | "overlaps" tests a dimension in a pattern alone: find C in W where d overlaps E
 * | @ less | an operator | "less" tests a dimension in a pattern alone: write a < b
 * | @ more | an operator | "more" tests a dimension in a pattern alone: write b < a
+* | @ is TEXT | an operator | a label is compared by "=": a = SET:LABEL
 * | @ is | an operator | "is" tests a dimension in a pattern alone: write a = b, or with n = a as CLASS { .. }
 find | @ where | in | "in SPACE" is due before "where"
 find | @ all | a space | "all" is a reserved word: a unit has to be in a space to be found, and the space is due here
@@ -43,6 +45,16 @@ find | in NAME @ , | where | a pattern stands behind "where": find C in $before 
 pub(crate) const VALUE_SLIPS: &str = r#"
 let | let NAME = @ = | a value | one "=" gives a name its value
 * | = @ = | * | write "=" to compare
+* | + @ = | * | there is no "+="
+* | - @ = | * | there is no "-="
+* | * @ = | * | there is no "*="
+* | / @ = | * | there is no "/="
+* | % @ = | * | there is no "%="
+* | @ + = | * | there is no "+=": write out the sum
+* | @ - = | * | there is no "-=": write out the difference
+* | @ * = | * | there is no "*=": write out the product
+* | @ / = | * | there is no "/=": write out the quotient
+* | @ % = | * | there is no "%=": write out the remainder
 * | = @ < | * | there is no "=<": write "<="
 * | = @ > | * | there is no "=>"
 * | - @ > | * | there is no "->"
@@ -61,6 +73,9 @@ let | let NAME = @ = | a value | one "=" gives a name its value
 * | INT @ . . | * | there are no ranges of numbers: a loop goes over units
 * | INT @ . | * | numbers are whole: no "." stands behind one
 * | INT @ NAME | an operator | no letter stands behind a number: $before$at is none
+* | NAME . WORD @ . size | an operator | write size($third.$before)
+* | NAME . WORD @ . low | an operator | write low($third.$before)
+* | NAME . WORD @ . high | an operator | write high($third.$before)
 * | NAME . WORD @ . WORD | an operator | name the partner first: with n = $third.$before { .. n.$behind .. }
 * | . WORD @ . | an operator | a value has one ".": name the partner first, by "with"
 * | it @ [ | * | there are no lists: "for" goes over units one by one
@@ -83,6 +98,8 @@ let | let NAME = @ = | a value | one "=" gives a name its value
 * | high @ ANY | ( | "(" is due: write high(..)
 * | min @ ANY | ( | "(" is due: write min(a, b)
 * | max @ ANY | ( | "(" is due: write max(a, b)
+* | = ( INT @ , | ) | an interval stands in square brackets: [$before, $behind]
+* | , ( INT @ , | ) | an interval stands in square brackets: [$before, $behind]
 min | @ ) | , | "min" takes two values: min(a, b)
 max | @ ) | , | "max" takes two values: max(a, b)
 min | @ , | ) | "min" takes two values: min(a, min(b, c))

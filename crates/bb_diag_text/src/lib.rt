@@ -1,34 +1,35 @@
-//! What diagnostics show of an input: excerpts with a caret, quoted names, and what the grammar expects at a location.
+//! The tokens of a text of sources, for messages, and what the grammar expects at a location.
 //!
-//! - In: texts of an input, and the line and column, or the byte, of a fault.
-//! - Out: `write_excerpt`, `write_quoted` and others, which append to a message; `fault_at`, the first byte at which a
-//!   document stops being JSON; `look`, a `Spot`: the tokens around a location, the tokens expected there, the open
-//!   brackets, and the parts that the source has so far; `list_sources` and `source_tokens`, the tokens of sources.
-//! - Callers rely on: control characters of an input are shown as blanks. The parser (bb_lang) decides what a text is;
-//!   the grammar here only serves messages, and a `Spot` expects nothing if this grammar lacks the tokens before it.
-//! - Family: bb_diag_syntax writes sentences from a `Spot`; bb_diag_meaning and bb_lint_parts find locations by tokens.
+//! - In: a text of sources, and the line and column of a fault.
+//! - Out: `look`, a `Spot`: the tokens around a location, the tokens expected there, the open brackets, and the parts that
+//!   the source has so far; `list_sources` and `source_tokens`, the tokens of sources; `Pieces`, a text cut where sources
+//!   begin; `Operators`, the operators of other languages in a piece.
+//! - Callers rely on: the parser (bb_lang) decides what a text is; the grammar here only serves messages, and a `Spot`
+//!   expects nothing if this grammar lacks the tokens before it.
+//! - Family: bb_diag_place shows pieces of an input, and is handed on here; bb_diag_syntax writes sentences from a `Spot`;
+//!   bb_diag_scope and bb_lint_parts find locations by tokens.
 //! - Cases: `sentences`.
 #![tactic(auto)]
 
-mod excerpt;
 mod listed;
+mod operators;
 mod outer_rules;
 mod pattern_rules;
-mod scan;
-mod section;
+mod pieces;
 mod spot;
 mod statement_rules;
 mod symbol;
 mod token;
 mod value_rules;
 mod walk;
-mod words;
 
-pub use excerpt::{line_at, write_excerpt, write_excerpt_at, write_whole_line};
+pub use bb_diag_place::{
+    Section, SectionLine, begin_line, fault_at, line_at, note_header, write_excerpt,
+    write_excerpt_at, write_note, write_phrase, write_quoted, write_shown, write_whole_line,
+};
 pub use listed::{ListedSource, SourceTokens, list_sources, source_line, source_tokens};
-pub use scan::fault_at;
-pub use section::{Section, note_header, note_input_line, write_input_line};
+pub use operators::Operators;
+pub use pieces::{Piece, Pieces};
 pub use spot::{Bracket, Spot, look};
 pub use symbol::{Due, RESERVED, is_reserved};
 pub use token::{Token, TokenKind};
-pub use words::{begin_line, write_note, write_phrase, write_quoted, write_shown};

@@ -1,6 +1,7 @@
 //! The sources of a text by name: where each begins, and its tokens. Messages on names search here, and so do crates
 //! that locate something in an accepted text (bb_lint_parts).
 
+use crate::pieces::Piece;
 use crate::token::{Token, TokenKind, Tokens};
 use bb_basis::Memory;
 use std::alloc::Global;
@@ -61,10 +62,10 @@ fn next_name<'a>(tokens: &mut Tokens<'a>) -> Option<Token<'a>> {
     None
 }
 
-// Returns the first source with a name.
-fn find<'a>(text: &'a str, name: &str) -> Option<ListedSource<'a>> {
-    let mut tokens = Tokens::of(text);
-    for _turn in 0..text.len() {
+// Returns the first source with a name, from the beginning of a piece on.
+fn find<'a>(piece: Piece<'a>, name: &str) -> Option<ListedSource<'a>> {
+    let mut tokens = Tokens::of(piece);
+    for _turn in 0..tokens.left() {
         let token = next_name(&mut tokens)?;
         if token.is(name) {
             let behind = SourceTokens::behind(tokens);
@@ -80,7 +81,7 @@ fn find<'a>(text: &'a str, name: &str) -> Option<ListedSource<'a>> {
 /// Lists the sources of a text, in order.
 pub fn list_sources(alloc: Global, text: &str) -> Result<Vec<ListedSource<'_>>, Memory> {
     let mut list = Vec::new(alloc);
-    let mut tokens = Tokens::of(text);
+    let mut tokens = Tokens::of(Piece::whole(text));
     for _turn in 0..text.len() {
         let Some(name) = next_name(&mut tokens) else {
             return Ok(list);
@@ -93,22 +94,23 @@ pub fn list_sources(alloc: Global, text: &str) -> Result<Vec<ListedSource<'_>>, 
 
 /// Returns the line where a text first begins a source with a name.
 pub fn source_line(text: &str, name: &str) -> Option<u64> {
-    let source = find(text, name)?;
+    let source = find(Piece::whole(text), name)?;
     Some(source.name.line)
 }
 
-/// Lists the tokens of a source after its name; empty if the text has no such source.
+/// Lists the tokens of a source after its name: of the first one with the name from the beginning of a piece on; empty
+/// if there is none.
 pub fn source_tokens<'a>(
     alloc: Global,
-    text: &'a str,
+    piece: Piece<'a>,
     name: &str,
 ) -> Result<Vec<Token<'a>>, Memory> {
     let mut list = Vec::new(alloc);
-    let Some(source) = find(text, name) else {
+    let Some(source) = find(piece, name) else {
         return Ok(list);
     };
     let mut behind = source.behind;
-    for _turn in 0..text.len() {
+    for _turn in 0..piece.text.len() {
         match behind.take() {
             None => return Ok(list),
             Some(token) => list.push(token)?,

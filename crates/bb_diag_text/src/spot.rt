@@ -1,10 +1,14 @@
 //! What is known at a location of a text. Messages (bb_diag_syntax) are written from it.
 
+use crate::pieces::Piece;
 use crate::symbol::Due;
 use crate::token::{Token, Tokens};
 use crate::walk::Walk;
 use bb_basis::Memory;
 use std::alloc::Global;
+
+// The maximum number of brackets that the parser lets be open. Beyond it nothing is known.
+const MOST_OPEN: usize = 64;
 
 /// An open bracket, and the first word of the construct it belongs to: `do`, `if`, `source`.
 #[derive(Clone, Copy, Debug)]
@@ -35,40 +39,102 @@ pub struct Spot<'a> {
     pub parts: Vec<&'a str>,
 }
 
-/// Returns what is known at a location of a text, which is that of a token. Line and column count from 1. `Memory`:
-/// memory ran out.
-pub fn look(alloc: Global, text: &str, line: u64, column: u64) -> Result<Spot<'_>, Memory> {
-    let mut walk = Walk::begin(alloc)?;
-    let mut tokens = Tokens::of(text);
-    let mut before = [Token::none(); 3];
-    let mut at = tokens.take();
-    let mut is_known = true;
-    for _turn in 0..text.len() {
-        if at.is_from(line, column) {
+/// A way through the tokens of a piece, with what is known at each.
+#[derive(Drop)]
+pub(crate) struct View<'a> {
+    walk: Walk<'a>,
+    // Whether the grammar allows all tokens so far.
+    is_known: bool,
+    before: [Token<'a>; 3],
+    pub(crate) at: Token<'a>,
+    pub(crate) tokens: Tokens<'a>,
+}
+
+impl<'a> View<'a> {
+    /// Begins at the first token of a piece.
+    pub(crate) fn of(alloc: Global, piece: Piece<'a>) -> Result<View<'a>, Memory> {
+        let mut tokens = Tokens::of(piece);
+        Ok(View {
+            walk: Walk::begin(alloc)?,
+            is_known: true,
+            before: [Token::none(); 3],
+            at: tokens.take(),
+            tokens,
+        })
+    }
+
+    /// Returns the token before.
+    pub(crate) fn before(&self) -> Token<'a> {
+        let [before, _, _] = self.before;
+        before
+    }
+
+    /// Passes the token, which is read as `read`.
+    pub(crate) fn pass(&mut self, read: Token<'a>) -> Result<(), Memory> {
+        self.is_known = self.is_known && self.walk.depth() <= MOST_OPEN && self.walk.take(read)?;
+        self.move_on();
+        Ok(())
+    }
+
+    /// Passes the token as if it were a blank.
+    pub(crate) fn move_on(&mut self) {
+        let [before, first, _] = self.before;
+        self.before = [self.at, before, first];
+        self.at = self.tokens.take();
+    }
+
+    /// Returns whether `what` could come next, or nothing is known of that.
+    pub(crate) fn may_come(&self, alloc: Global, what: &str) -> Result<bool, Memory> {
+        Ok(!self.is_known || self.is_due(alloc, what)?)
+    }
+
+    /// Returns whether the grammar allows all tokens so far, and `what` could come next.
+    pub(crate) fn is_due(&self, alloc: Global, what: &str) -> Result<bool, Memory> {
+        Ok(self.due(alloc)?.iter().any(|due| due.is(what)))
+    }
+
+    // Lists what could come next; nothing if the grammar does not allow the tokens so far.
+    fn due(&self, alloc: Global) -> Result<Vec<Due>, Memory> {
+        if self.is_known {
+            self.walk.due(alloc)
+        } else {
+            Ok(Vec::new(alloc))
+        }
+    }
+
+    /// Returns what is known at the token.
+    pub(crate) fn spot(&self, alloc: Global) -> Result<Spot<'a>, Memory> {
+        let [before, first, third] = self.before;
+        let mut tokens = self.tokens;
+        Ok(Spot {
+            at: self.at,
+            before,
+            first,
+            third,
+            behind: tokens.take(),
+            last: tokens.take(),
+            due: self.due(alloc)?,
+            head: self.walk.head(),
+            open: self.walk.open(alloc)?,
+            parts: self.walk.parts(alloc)?,
+        })
+    }
+}
+
+/// Returns what is known at a location of a text, which is that of a token in a piece of it. Line and column are those
+/// of the whole text. `Memory`: memory ran out.
+pub fn look<'a>(
+    alloc: Global,
+    piece: Piece<'a>,
+    line: u64,
+    column: u64,
+) -> Result<Spot<'a>, Memory> {
+    let mut view = View::of(alloc, piece)?;
+    for _turn in 0..piece.text.len() {
+        if view.at.is_from(line, column) {
             break;
         }
-        is_known = is_known && walk.take(at)?;
-        before = [at, before[0], before[1]];
-        at = tokens.take();
+        view.pass(view.at)?;
     }
-    let due = if is_known {
-        walk.due(alloc)?
-    } else {
-        Vec::new(alloc)
-    };
-    let head = walk.head();
-    let (open, parts) = walk.into_parts();
-    let [before, first, third] = before;
-    Ok(Spot {
-        at,
-        before,
-        first,
-        third,
-        behind: tokens.take(),
-        last: tokens.take(),
-        due,
-        head,
-        open,
-        parts,
-    })
+    view.spot(alloc)
 }

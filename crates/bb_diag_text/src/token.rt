@@ -1,5 +1,6 @@
 //! The tokens of any text, valid or not: if the language has no token at a character, the character is one.
 
+use crate::pieces::Piece;
 use std::str::from_utf8;
 
 /// The kinds of token.
@@ -26,7 +27,7 @@ pub struct Token<'a> {
     pub text: &'a str,
     pub line: u64,
     pub column: u64,
-    /// How many bytes of the text are before it.
+    /// How many bytes of the text, or of its piece, are before it.
     pub start: usize,
     /// Whether it follows the token before it without a blank.
     pub is_joined: bool,
@@ -50,13 +51,29 @@ impl<'a> Token<'a> {
         self.text == word
     }
 
+    /// Returns the token that another word or symbol would be here.
+    pub(crate) fn read_as(self, text: &'static str) -> Token<'a> {
+        let kind = match text.as_bytes() {
+            [first, ..] if first.is_ascii_lowercase() => TokenKind::Word,
+            _ => TokenKind::Symbol,
+        };
+        Token {
+            kind,
+            text,
+            line: self.line,
+            column: self.column,
+            start: self.start,
+            is_joined: self.is_joined,
+        }
+    }
+
     /// Returns whether it begins at a location or after it.
     pub(crate) fn is_from(&self, line: u64, column: u64) -> bool {
         self.line > line || (self.line == line && self.column >= column)
     }
 }
 
-/// The tokens of a text that are still to come.
+/// The tokens of a text, or of a piece of one, that are still to come.
 #[derive(Clone, Copy, Debug)]
 pub(crate) struct Tokens<'a> {
     rest: &'a [u8],
@@ -66,13 +83,20 @@ pub(crate) struct Tokens<'a> {
 }
 
 impl<'a> Tokens<'a> {
-    pub(crate) fn of(text: &'a str) -> Tokens<'a> {
+    /// Returns the tokens from the beginning of a piece to the end of its text.
+    pub(crate) fn of(piece: Piece<'a>) -> Tokens<'a> {
         Tokens {
-            rest: text.as_bytes(),
-            line: 1,
-            column: 1,
+            rest: piece.text.as_bytes(),
+            line: piece.line,
+            column: piece.column,
             start: 0,
         }
+    }
+
+    /// Passes what is left of the line.
+    pub(crate) fn pass_line(&mut self) {
+        let len = self.rest.iter().take_while(|byte| **byte != b'\n').count();
+        let _passed = self.pass(len);
     }
 
     /// Returns how many bytes are left.

@@ -119,14 +119,19 @@ impl<'a> Walk<'a> {
         Ok(due)
     }
 
-    /// Returns the open brackets, and the parts that the source has so far.
-    pub(crate) fn into_parts(self) -> (Vec<Bracket<'a>>, Vec<&'a str>) {
-        let Walk {
-            stack: _,
-            open,
-            parts,
-        } = self;
-        (open, parts)
+    /// Returns how many brackets are open.
+    pub(crate) fn depth(&self) -> usize {
+        self.open.len()
+    }
+
+    /// Lists the open brackets, the innermost last.
+    pub(crate) fn open(&self, alloc: Global) -> Result<Vec<Bracket<'a>>, Memory> {
+        self.open.iter().copied().collect(alloc)
+    }
+
+    /// Lists the parts that the source has so far.
+    pub(crate) fn parts(&self, alloc: Global) -> Result<Vec<&'a str>, Memory> {
+        self.parts.iter().copied().collect(alloc)
     }
 }
 

@@ -24,6 +24,16 @@ pub(crate) enum Mistake<'a> {
     NoUnit,
 }
 
+impl Mistake<'_> {
+    /// Returns what the warning about it is, as editors read it.
+    pub(crate) fn kind(self) -> &'static str {
+        match self {
+            Mistake::NoSource(_) | Mistake::NoArea(_) => "warning[focus]",
+            Mistake::NoUnit => "warning[test]",
+        }
+    }
+}
+
 /// Returns the names of sources.
 pub(crate) fn source_names(alloc: Global, sources: &[Source]) -> Result<Names, Memory> {
     let mut names = Names::new(alloc);

@@ -25,7 +25,7 @@ fn write_labels(text: &mut String, schema: &Schema) -> Result<(), Memory> {
     for set in 0..schema.label_set_count() {
         let number = set as LabelSetId;
         if let Some(word) = name_of_set(schema, number) {
-            write!(text, "warning: schema, labels[{set}]")?;
+            write!(text, "input: warning[reserved]: schema, labels[{set}]")?;
             write_word(text, word, "label set")?;
         }
         for label in 0..=LabelId::MAX {
@@ -33,7 +33,10 @@ fn write_labels(text: &mut String, schema: &Schema) -> Result<(), Memory> {
                 break;
             };
             if is_reserved(name) {
-                write!(text, "warning: schema, labels[{set}].values[{label}]")?;
+                write!(
+                    text,
+                    "input: warning[reserved]: schema, labels[{set}].values[{label}]"
+                )?;
                 write_word(text, name, "label")?;
             }
         }
@@ -48,7 +51,7 @@ fn write_classes(text: &mut String, schema: &Schema) -> Result<(), Memory> {
         if is_reserved(name) {
             write!(
                 text,
-                "warning: schema, classes[{}]",
+                "input: warning[reserved]: schema, classes[{}]",
                 class.saturating_sub(1)
             )?;
             write_word(text, name, "class")?;
@@ -62,12 +65,15 @@ fn write_spaces(text: &mut String, schema: &Schema) -> Result<(), Memory> {
     for space in 0..schema.space_count() {
         let name = schema.space_name(space as SpaceId).unwrap_or("");
         if is_reserved(name) {
-            write!(text, "warning: schema, spaces[{space}]")?;
+            write!(text, "input: warning[reserved]: schema, spaces[{space}]")?;
             write_word(text, name, "space")?;
         }
         for (dim, named) in schema.dims(space as SpaceId).iter().enumerate() {
             if is_reserved(named.name.as_str()) {
-                write!(text, "warning: schema, spaces[{space}].dims[{dim}]")?;
+                write!(
+                    text,
+                    "input: warning[reserved]: schema, spaces[{space}].dims[{dim}]"
+                )?;
                 write_word(text, named.name.as_str(), "dimension")?;
             }
         }

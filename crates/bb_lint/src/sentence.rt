@@ -9,7 +9,7 @@ use crate::vain::held_class;
 use crate::warning::{Warning, code_warnings};
 use bb_basis::{Memory, Names};
 use bb_code::{ClassId, Code, Op, Place};
-use bb_lint_parts::{OpSites, Possible, Site};
+use bb_lint_parts::{OpSites, Possible, Site, Subject};
 use bb_rules::Source;
 use bb_schema::Schema;
 use bb_verify::Checked;
@@ -30,12 +30,13 @@ pub(crate) struct Part<'a> {
 }
 
 impl<'a> Part<'a> {
-    // Begins a warning about the code, and appends where its subject is.
-    fn begin(self, text: &mut String, site: Site<'_>) -> Result<(), Memory> {
-        let name = self.source.parts().name.as_str();
-        let part = self.checked.part().word();
-        write!(text, "warning: source {name}, {part}")?;
-        site.write_place(text)
+    // Returns what a warning about the code is about.
+    fn subject(self, kind: &'static str) -> Subject<'a> {
+        Subject {
+            kind,
+            source: self.source.parts().name.as_str(),
+            part: self.checked.part().word(),
+        }
     }
 
     // Returns where an op is; the part, if the code has no op at the index.
@@ -95,13 +96,18 @@ fn write_slip(
         Warning::Test(place) | Warning::Find(place) => part.site(place),
         Warning::Unused(_) => part.sites.part(),
     };
-    part.begin(text, site)?;
+    let subject = part.subject(match warning {
+        Warning::Test(_) => "warning[test]",
+        Warning::Find(_) => "warning[find]",
+        Warning::Unused(_) => "warning[query]",
+    });
+    site.begin(text, subject)?;
     match warning {
         Warning::Test(place) => write_test(text, schema, checked, place)?,
         Warning::Find(place) => write_find(text, schema, checked.code(), place, "is in")?,
         Warning::Unused(query) => write!(text, "no op names query {query}")?,
     }
-    site.write_end(text)
+    site.end(text, subject)
 }
 
 /// Appends the warnings about a code.
@@ -150,9 +156,10 @@ pub(crate) fn write_empty_finds(
     for place in 0..count {
         if finds_none(schema, possible, code, place) {
             let site = part.site(place);
-            part.begin(text, site)?;
+            let subject = part.subject("warning[find]");
+            site.begin(text, subject)?;
             write_find(text, schema, code, place, "ever enters")?;
-            site.write_end(text)?;
+            site.end(text, subject)?;
         }
     }
     Ok(())
@@ -191,9 +198,10 @@ pub(crate) fn write_mistakes(
     for place in 0..count {
         if let Some(mistake) = mistake_at(schema, names, part.source, code, place) {
             let site = part.site(place);
-            part.begin(text, site)?;
+            let subject = part.subject(mistake.kind());
+            site.begin(text, subject)?;
             write_mistake(text, mistake)?;
-            site.write_end(text)?;
+            site.end(text, subject)?;
         }
     }
     Ok(())

@@ -4,16 +4,18 @@
 use bb_basis::Memory;
 use bb_board::ChangeKind;
 use bb_code::{ClassId, SlotId};
-use bb_lint_parts::{Possible, Site, SourceSites};
+use bb_lint_parts::{Possible, SourceSites, Subject};
 use bb_rules::{Clause, ClauseList, Source};
 use bb_schema::{Schema, SpaceId};
 use std::fmt::Write;
 
-// Begins a warning about a source or one of its parts, and appends where its subject is.
-fn begin(text: &mut String, source: &Source, part: &str, site: Site<'_>) -> Result<(), Memory> {
-    let name = source.parts().name.as_str();
-    write!(text, "warning: source {name}{part}")?;
-    site.write_place(text)
+// Returns what a warning about a source, or one of its parts, is about.
+fn subject<'a>(kind: &'static str, source: &'a Source, part: &'a str) -> Subject<'a> {
+    Subject {
+        kind,
+        source: source.parts().name.as_str(),
+        part,
+    }
 }
 
 /// Appends that no activation of a source is chosen.
@@ -25,13 +27,14 @@ pub(crate) fn write_rating(
 ) -> Result<(), Memory> {
     let rate = source.parts().rate;
     let site = sites.rate();
-    begin(text, source, "", site)?;
+    let subject = subject("warning[rate]", source, "");
+    site.begin(text, subject)?;
     write!(
         text,
         "its rate {rate} is below the floor {floor}, and no source makes a focus; "
     )?;
     text.push_str("unless a first unit is one, it is never chosen")?;
-    site.write_end(text)
+    site.end(text, subject)
 }
 
 /// Appends that quiescence triggers a source again and again.
@@ -45,10 +48,11 @@ pub(crate) fn write_restless(
         .iter()
         .position(|clause| matches!(clause, Clause::Quiescence));
     let site = sites.clause(ClauseList::Triggers, quiescence.unwrap_or(0));
-    begin(text, source, "", site)?;
+    let subject = subject("warning[quiescence]", source, "");
+    site.begin(text, subject)?;
     text.push_str("each quiescence triggers it, and it has no `require`; ")?;
     text.push_str("unless foci weigh it below the floor, the run goes on to its limit")?;
-    site.write_end(text)
+    site.end(text, subject)
 }
 
 /// Appends that no event triggers a source.
@@ -58,9 +62,10 @@ pub(crate) fn write_never_rates(
     sites: &SourceSites<'_>,
 ) -> Result<(), Memory> {
     let site = sites.part("require");
-    begin(text, source, ", require", site)?;
+    let subject = subject("warning[require]", source, "require");
+    site.begin(text, subject)?;
     text.push_str("it has no way to a rating, so no event triggers the source")?;
-    site.write_end(text)
+    site.end(text, subject)
 }
 
 /// Appends the clauses of a source that name something that never happens.
@@ -110,11 +115,12 @@ impl ClauseSentences<'_> {
             if let Clause::Change { kind, class } = *clause {
                 if !self.possible.can_happen(self.schema, kind, class) {
                     let site = self.sites.clause(list, index);
-                    begin(text, self.source, part_of(list), site)?;
+                    let subject = subject("warning[event]", self.source, part_of(list));
+                    site.begin(text, subject)?;
                     text.push_str("no first unit and no source brings \"")?;
                     write_event(text, self.schema, kind, class)?;
                     text.push_str(what_follows(list))?;
-                    site.write_end(text)?;
+                    site.end(text, subject)?;
                 }
             }
         }
@@ -122,12 +128,12 @@ impl ClauseSentences<'_> {
     }
 }
 
-// Returns how a list of clauses is named after the name of a source.
+// Returns the word of the part with a list of clauses; empty for the triggers.
 fn part_of(list: ClauseList) -> &'static str {
     match list {
         ClauseList::Triggers => "",
-        ClauseList::Obviate => ", obviate",
-        ClauseList::Retrigger => ", retrigger",
+        ClauseList::Obviate => "obviate",
+        ClauseList::Retrigger => "retrigger",
     }
 }
 

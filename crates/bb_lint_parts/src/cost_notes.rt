@@ -4,7 +4,7 @@
 
 use crate::existence::asks_for_one;
 use crate::op_sites::OpSites;
-use crate::site::Site;
+use crate::site::{Site, Subject};
 use crate::source_sites::{SourceSites, Texts};
 use bb_basis::Memory;
 use bb_code::{Code, Node, Op, Place, Query};
@@ -28,8 +28,12 @@ fn unbounded(code: &Code, op: Op) -> Option<&Query> {
 
 // Begins a line about a part of a source.
 fn begin(text: &mut String, name: &str, part: &str, site: Site<'_>) -> Result<(), Memory> {
-    write!(text, "cost: source {name}, {part}")?;
-    site.write_place_in_line(text)
+    let subject = Subject {
+        kind: "note[cost]",
+        source: name,
+        part,
+    };
+    site.begin_in_line(text, subject)
 }
 
 // Appends the further costs of an op's search.

@@ -28,6 +28,6 @@ mod widths;
 pub use costs::write_costs;
 pub use op_sites::OpSites;
 pub use possible::Possible;
-pub use site::{Origin, Site};
+pub use site::{Origin, Site, Subject};
 pub use source_sites::{SourceSites, Texts};
 pub use spot::Spot;

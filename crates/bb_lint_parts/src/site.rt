@@ -1,18 +1,42 @@
-//! Where the subject of a line of advice is, and how the line shows that. Warnings (bb_lint) and the lines on costs use
-//! sites.
+//! Where the subject of a line of advice is, and how the line shows that. Warnings (bb_lint) and the lines on costs begin
+//! and end with sites.
 
 use crate::spot::Spot;
 use bb_basis::Memory;
 use bb_code::{Op, Place};
 use bb_code_asm::write_op;
-use bb_diag_text::{begin_line, write_excerpt_at};
+use bb_diag_text::{SectionLine, write_excerpt_at};
 use std::fmt::Write;
 
 /// A text of sources, and the number of lines of the input before it, if known.
 #[derive(Clone, Copy, Debug)]
 pub struct Origin<'a> {
     pub text: &'a str,
+    pub header: &'static str,
     pub lines_before: Option<u64>,
+}
+
+/// What a line of advice is about.
+#[derive(Clone, Copy, Debug)]
+pub struct Subject<'a> {
+    /// What the line is, as editors read it: `warning[rate]`, `note[cost]`.
+    pub kind: &'static str,
+    /// The name of the source.
+    pub source: &'a str,
+    /// The word of the part; empty if the whole source is meant.
+    pub part: &'a str,
+}
+
+impl Subject<'_> {
+    // Appends the names of the source and its part.
+    fn write_names(self, text: &mut String) -> Result<(), Memory> {
+        let Subject { source, part, .. } = self;
+        write!(text, "source {source}")?;
+        if part.is_empty() {
+            return Ok(());
+        }
+        write!(text, ", {part}")
+    }
 }
 
 /// Where something of a source is.
@@ -27,45 +51,57 @@ pub enum Site<'a> {
 }
 
 impl Site<'_> {
-    /// Appends the location and a colon: after the names of a source and its part, and before the message.
-    pub fn write_place(self, text: &mut String) -> Result<(), Memory> {
+    /// Begins a line of advice: where it is, what it is, and, if no text follows, the names of the source and its part.
+    pub fn begin(self, text: &mut String, subject: Subject<'_>) -> Result<(), Memory> {
         match self {
-            Site::Text { spot, .. } => {
-                let Spot { line, column, .. } = spot;
-                write!(text, ", line {line}, column {column}: ")
-            }
-            Site::Op { place, op } => write_op_place(text, place, op),
-            Site::Bytecode => text.push_str(": "),
+            Site::Text { .. } => self.write_head(text, subject.kind),
+            _ => self.begin_in_line(text, subject),
         }
     }
 
-    /// Appends the same as `write_place`, with the line of the input, for lines that show no text below.
-    pub fn write_place_in_line(self, text: &mut String) -> Result<(), Memory> {
-        let Site::Text { origin, spot } = self else {
-            return self.write_place(text);
-        };
-        let Spot { line, column, .. } = spot;
-        write!(text, ", line {line}, column {column}")?;
-        if let Some(before) = origin.lines_before {
-            write!(text, ", line {} of the input", line.saturating_add(before))?;
+    /// Begins the same with the names of the source and its part, for lines with no text below.
+    pub fn begin_in_line(self, text: &mut String, subject: Subject<'_>) -> Result<(), Memory> {
+        self.write_head(text, subject.kind)?;
+        subject.write_names(text)?;
+        if let Site::Op { place, op } = self {
+            write_op_place(text, place, op)?;
         }
         text.push_str(": ")
     }
 
-    /// Ends a message: below it are the line of the input, and that line of the text with a caret.
-    pub fn write_end(self, text: &mut String) -> Result<(), Memory> {
-        if let Site::Text { origin, spot } = self {
-            if let Some(before) = origin.lines_before {
-                begin_line(text)?;
-                write!(
-                    text,
-                    "line {} of the input",
-                    spot.line.saturating_add(before)
-                )?;
+    // Appends where the line is, as editors read it, and what it is.
+    fn write_head(self, text: &mut String, kind: &str) -> Result<(), Memory> {
+        match self {
+            Site::Text { origin, spot } => {
+                origin.line(spot).write_place(text)?;
+                write!(text, ":{}", spot.column)?;
             }
+            _ => text.push_str("input")?,
+        }
+        write!(text, ": {kind}: ")
+    }
+
+    /// Ends a line of advice: below it are the names of the source and its part, the line of the section, and that line
+    /// with a caret.
+    pub fn end(self, text: &mut String, subject: Subject<'_>) -> Result<(), Memory> {
+        if let Site::Text { origin, spot } = self {
+            let mut called = String::new(*text.allocator());
+            subject.write_names(&mut called)?;
+            origin.line(spot).note(text, called.as_str())?;
             write_excerpt_at(text, origin.text, spot.start)?;
         }
         text.push_str("\n")
+    }
+}
+
+impl Origin<'_> {
+    // Returns the line of a spot.
+    fn line(self, spot: Spot) -> SectionLine {
+        SectionLine {
+            header: self.header,
+            lines_before: self.lines_before,
+            line: spot.line,
+        }
     }
 }
 
@@ -73,5 +109,5 @@ impl Site<'_> {
 fn write_op_place(text: &mut String, place: Place, op: Op) -> Result<(), Memory> {
     write!(text, ", op {place} \"")?;
     write_op(text, op)?;
-    text.push_str("\": ")
+    text.push_str("\"")
 }

@@ -31,6 +31,7 @@ impl<'a> Texts<'a> {
         Ok(Texts {
             origin: Origin {
                 text: section.text,
+                header: section.header,
                 lines_before: section.lines_before(),
             },
             listed: list_sources(alloc, section.text)?,

@@ -20,7 +20,7 @@ pub(crate) fn advice_on<'a>(
     let noted = match read_first_units(alloc, input)? {
         Some(FirstUnits::Noted(notes)) => Some(notes),
         Some(FirstUnits::Refused(report)) => {
-            writeln!(text, "warning: the first units would be refused: {report}")?;
+            writeln!(text, "{report}")?;
             None
         }
         None => None,

@@ -9,9 +9,9 @@ ghost use Rattle.bb_main.specs.declared.serving.TheConstants.{REFUSED, WRITE};
 
 use crate::served::Served;
 use crate::serving::{MEMORY, REFUSED, WRITE};
-use bb_diag::{Input, report};
+use bb_diag::{Input, brief, report};
 use bb_main_input::Sections;
-use bb_shell::{InputFault, NativeSource, Out, close_each, put_all};
+use bb_shell::{InputFault, Memory, NativeSource, Out, close_each, put_all};
 use std::alloc::Global;
 use std::fmt::Display;
 
@@ -44,11 +44,11 @@ pub(crate) fn refuse<O: Out>(
     }
 }
 
-// Returns the reason of a refusal: the sentence and the notes, or only the sentence, or nothing, as memory allows.
+// Returns the reason of a refusal: the message with its notes, or only its first line, or nothing, as memory allows.
 fn reason(alloc: Global, fault: &InputFault, sections: Sections<'_>) -> Option<String> {
     match report(alloc, fault, input_of(sections)) {
         Ok(text) => Some(text),
-        Err(_) => fault.to_string(alloc).ok(),
+        Err(_) => brief(alloc, fault).ok(),
     }
 }
 
@@ -103,8 +103,29 @@ fn answer<D: Display + Drop, O: Out>(alloc: Global, line: &str, reason: D, write
     }
     Served {
         status,
-        report: reason.to_string(alloc).ok(),
+        report: message(alloc, line, reason).ok(),
         advice: None,
+    }
+}
+
+// Returns the line of the input that the note below a reason begins with; empty if there is none.
+fn noted_line(reason: &str) -> &str {
+    match reason.split_once("\n  | line ") {
+        Some((_, note)) => note.split_once(": ").map_or("", |(line, _)| line),
+        None => "",
+    }
+}
+
+// Returns the message on an input that has no sections: its line if it is known, the words of the refusal as editors
+// read them, and the reason.
+fn message<D: Display + Drop>(alloc: Global, line: &str, reason: D) -> Result<String, Memory> {
+    let said = reason.to_string(alloc)?;
+    let words = line.strip_prefix("refused ").unwrap_or(line);
+    let said = said.as_str();
+    let said = said.strip_prefix("input: ").unwrap_or(said);
+    match noted_line(said) {
+        "" => format!(in alloc; "input: error[{words}]: {said}"),
+        line => format!(in alloc; "input:{line}: error[{words}]: {said}"),
     }
 }
 

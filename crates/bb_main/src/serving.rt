@@ -87,7 +87,7 @@ fn say<E: Write>(report: Option<String>, errors: &mut E)
     let Some(report) = report else {
         return;
     };
-    let _ = writeln!(errors, "bb: {report}");
+    let _ = writeln!(errors, "{report}");
 }
 
 // Writes the advice on a checked input, if there is any. What cannot be written is dropped.

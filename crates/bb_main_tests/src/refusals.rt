@@ -72,17 +72,17 @@ fn said_refusals(rt: HostRuntime) {
         (
             b"%schema\n{}\n%sources\n?\n".as_slice(),
             "refused lang 1:1 1\n",
-            "bb: sources, line 1, column 1: \"?\" begins no token: write if .. { .. } else { .. }\n  | line 4 of the input\n  | ?\n  | ^\n",
+            "input:4:1: error[lang 1]: \"?\" begins no token: write if .. { .. } else { .. }\n  | line 1 of %sources\n  | ?\n  | ^\n",
         ),
         (
             b"{}".as_slice(),
             "refused input sections\n",
-            "bb: input: its first line is not `%schema`, or a header line is out of order or there twice\n  | line 1: \"%schema\" is due there, not \"{}\"\n",
+            "input:1: error[input sections]: its first line is not `%schema`, or a header line is out of order or there twice\n  | line 1: \"%schema\" is due there, not \"{}\"\n",
         ),
         (
             b"%schema\n\xff".as_slice(),
             "refused input utf8\n",
-            "bb: input: it is not UTF-8\n",
+            "input: error[input utf8]: it is not UTF-8\n",
         ),
     ] {
         let report = report.as_bytes();
@@ -95,7 +95,7 @@ fn said_refusals(rt: HostRuntime) {
 
 #[test]
 fn said_of_readers(rt: HostRuntime) -> Result<(), Fail> {
-    let report = b"bb: input: it could not be read\n";
+    let report = b"input: error[input read]: it could not be read\n";
     assert!(rt; refuses(&rt, Unreadable, 100, "refused input read\n", report));
     let sentence = SectionFault::Limit.to_string(rt.alloc())?;
     assert_eq!(rt;

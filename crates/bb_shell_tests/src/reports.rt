@@ -33,52 +33,49 @@ fn sentences(rt: HostRuntime) -> Result<(), Fail> {
             "",
             ONE_NOTE,
             HAIL,
-            "schema: it is not JSON
-  | line 1, column 1
+            "%schema:1:1: error[schema 1]: it is not JSON
   | \n  | ^",
         ),
         (
             NOTE_SCHEMA,
             "",
             HAIL,
-            "units: it is not JSON
-  | line 1, column 1
+            "%units:1:1: error[units 1]: it is not JSON
   | \n  | ^",
         ),
         (
             NOTE_SCHEMA,
             ONE_NOTE,
             "x",
-            "bundle, line 1: this is no line of a bundle, or it does not belong here
+            "%bundle:1: error[bundle 1]: this is no line of a bundle, or it does not belong here
   | x",
         ),
         (
             NOTE_SCHEMA,
             ONE_NOTE,
             NO_HEX,
-            "bundle, line 3: the code is not in pairs of hex digits
+            "%bundle:3: error[bundle 2]: the code is not in pairs of hex digits
   | do 4",
         ),
         (
             NOTE_SCHEMA,
             ONE_NOTE,
             NO_CODE,
-            "bundle, line 3: the bytes are no code: their version is neither 1 nor 2
+            "%bundle:3: error[bundle code 2]: the bytes are no code: their version is neither 1 nor 2
   | byte 3 of the code, which has 4",
         ),
         (
             NOTE_SCHEMA,
             ONE_NOTE,
             NOT_ACCEPTED,
-            "source hail, do, op 1: no frame stands here, or what the op leaves does not fit a declared one
+            "input: error[verify 4]: source hail, do, op 1: no frame stands here, or what the op leaves does not fit a declared one
   | op 1 \"Done\"",
         ),
         (
             "{}",
             "{}",
             HAIL,
-            "source hail: a class is not there, or is neither that of the source or of its reaction nor below it
-  | line 1 of the bundle
+            "%bundle:1: error[rule 5]: source hail: a class is not there, or is neither that of the source or of its reaction nor below it
   | source hail note 100",
         ),
     ] {
@@ -108,31 +105,32 @@ fn carets(rt: HostRuntime) -> Result<(), Fail> {
     for (sources, report) in [
         (
             NOT_COMPILED,
-            "source echo, line 1, column 13: no class \"word\" is declared; declared: note, focus
+            "%sources:1:16: error[compile 1]: no class \"word\" is declared; declared: note, focus
+  | source echo
   | source echo on word { when create word; rate 1; native; }
-  |             ^",
+  |                ^",
         ),
         (
             "source a on note {\n  when create note;\n  rate 1; do { say \"\u{e9}\", ; } }",
-            "sources, line 3, column 25: a value is due behind \",\"
+            "%sources:3:25: error[lang 2]: a value is due behind \",\"
   |   rate 1; do { say \"\u{e9}\", ; } }
   |                         ^",
         ),
         (
             "source a on note {\r\n\twhen create note\r\n\trate 1;",
-            "sources, line 3, column 2: \";\" is due at the end of line 2
+            "%sources:3:2: error[lang 2]: \";\" is due at the end of line 2
   |  rate 1;
   |  ^",
         ),
         (
             "\u{1b}[2J",
-            "sources, line 1, column 1: U+001B begins no token
+            "%sources:1:1: error[lang 1]: U+001B begins no token
   |  [2J
   | ^",
         ),
         (
             "source a on note {\n",
-            "sources, line 2, column 1: \"when\" is due, and the text ends
+            "%sources:2:1: error[lang 2]: \"when\" is due, and the text ends
   | \n  | ^",
         ),
     ] {
@@ -172,7 +170,7 @@ fn push_repeated(text: &mut String, part: &str, times: usize) -> Result<(), Fail
 // The report on a line with a comma too many at the column, with what is shown and the indent of the caret.
 fn report_with(alloc: Global, column: usize, shown: &str, indent: usize) -> Result<String, Fail> {
     let mut report = format!(in alloc;
-        "sources, line 1, column {column}: one \",\" is enough\n  | "
+        "%sources:1:{column}: error[lang 2]: one \",\" is enough\n  | "
     )?;
     report.push_str(shown)?;
     report.push_str("\n  | ")?;

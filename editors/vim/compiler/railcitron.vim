@@ -13,18 +13,15 @@ endif
 let s:program = escape(get(g:, 'railcitron_program', 'bb'), ' \|"')
 execute 'CompilerSet makeprg={\ echo\ of\ %:S;\ ' . s:program . '\ check\ <\ %:S\ >/dev/null;\ }'
 
-" A message has its column in its first line, and its line of the file in the next one, behind `  | `. Of a fault of a
-" document both stand there. Names and other notes come behind the message.
+" A message begins with its line and column of the file, as far as it has them, and its number or name. Names and other
+" notes come behind the message.
 CompilerSet errorformat=
       \%-Pof\ %f,
-      \%Ebb:\ %.%#\\,\ column\ %c:\ %m,
-      \%Wwarning:\ %.%#\\,\ column\ %c:\ %m,
-      \%Wbb:\ warning:\ %.%#\\,\ column\ %c:\ %m,
-      \%Ebb:\ %m,
-      \%Wwarning:\ %m,
-      \%C\ \ \|\ line\ %*\\d\\,\ column\ %c\\,\ line\ %l\ of\ the\ input,
-      \%C\ \ \|\ line\ %l\ of\ the\ input,
-      \%C\ \ \|\ line\ %l:\ %m,
+      \%Einput:%l:%c:\ error[%*[^]]]:\ %m,
+      \%Einput:%l:\ error[%*[^]]]:\ %m,
+      \%Einput:\ error[%*[^]]]:\ %m,
+      \%Winput:%l:%c:\ warning[%*[^]]]:\ %m,
+      \%Winput:\ warning[%*[^]]]:\ %m,
       \%-Z\ \ \|\ %\\s%#^,
       \%+C\ \ \|\ %.%#,
       \%-G%.%#

@@ -2,7 +2,7 @@
 
 use crate::entry::{entry_at, text_at};
 use bb_basis::Memory;
-use bb_diag_text::write_phrase;
+use bb_diag_place::write_phrase;
 use bb_schema_classes::DocumentPlace;
 use serde_json::Value;
 

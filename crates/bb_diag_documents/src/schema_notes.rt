@@ -5,7 +5,7 @@ use crate::entry::{entry_at, list_of, name_of, text_at, write_called};
 use crate::json_notes::{json_of, note_json};
 use crate::shape_notes::{Shape, write_shape};
 use bb_basis::{Memory, NAME_LIMIT};
-use bb_diag_text::{Section, write_note, write_phrase, write_quoted};
+use bb_diag_place::{Section, write_note, write_phrase, write_quoted};
 use bb_schema_classes::{DocumentPlace, ListKey, SchemaFault, SchemaFlaw};
 use serde_json::Value;
 use std::alloc::Global;

@@ -5,8 +5,9 @@
 //! - Out: `Statement`, the tokens of one; `Judge`, what is known before it; `kind_of`; lists of names.
 //! - Callers rely on: this is for messages. The compiler (bb_compile_scope) decides what a name holds; this is read
 //!   from the tokens, as far as they show it.
-//! - Family: the other modules of bb_diag_meaning write messages from it.
+//! - Family: bb_diag_meaning writes messages from it.
 //! - Cases: `sentences`.
+#![tactic(auto)]
 
 mod judge;
 mod kinds;

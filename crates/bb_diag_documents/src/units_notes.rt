@@ -6,7 +6,7 @@ use crate::shape_notes::{Shape, write_shape};
 use crate::slot_kind::write_slot_kind;
 use bb_basis::Memory;
 use bb_board::{UnitsFault, UnitsFlaw};
-use bb_diag_text::{Section, write_note, write_phrase, write_quoted};
+use bb_diag_place::{Section, write_note, write_phrase, write_quoted};
 use bb_schema::Schema;
 use bb_schema_classes::{ClassId, DocumentPlace, Kind, LabelSetId, ListKey, SlotId, TEXT_LIMIT};
 use serde_json::Value;

@@ -1,7 +1,7 @@
 //! The kinds of values, as far as their tokens show them, and how messages call them.
 
-use crate::scope::judge::Judge;
-use crate::scope::statement::word_at;
+use crate::judge::Judge;
+use crate::statement::word_at;
 use bb_basis::Memory;
 use bb_code::Kind;
 use bb_compile_scope::value_slot;

@@ -2,7 +2,7 @@
 //! schemas and initial units begin with that.
 
 use bb_basis::Memory;
-use bb_diag_text::write_phrase;
+use bb_diag_place::write_phrase;
 use bb_schema_classes::{DocumentPlace, ListItem, ListKey};
 use serde_json::Value;
 
@@ -20,7 +20,7 @@ fn item_of(value: &Value, item: ListItem) -> Option<&Value> {
 }
 
 /// Returns the text at a key of an object, if there is one.
-pub(crate) fn text_at<'a>(value: &'a Value, key: &str) -> Option<&'a str> {
+pub fn text_at<'a>(value: &'a Value, key: &str) -> Option<&'a str> {
     value.get(key)?.as_str()
 }
 

@@ -2,7 +2,7 @@
 //! on both documents call it.
 
 use bb_basis::Memory;
-use bb_diag_text::{write_phrase, write_quoted};
+use bb_diag_place::{write_phrase, write_quoted};
 use serde_json::Value;
 
 /// The required form of an entry.

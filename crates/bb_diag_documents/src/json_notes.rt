@@ -2,15 +2,12 @@
 //! on both documents call this.
 
 use bb_basis::Memory;
-use bb_diag_text::{
-    Section, begin_line, fault_at, line_at, note_header, write_excerpt, write_input_line,
-};
+use bb_diag_place::{Section, fault_at, line_at, note_header, write_excerpt};
 use serde_json::Value;
 use std::alloc::{AllocError, Global};
-use std::fmt::Write;
 
 /// Parses a document as JSON; `None` if it is not JSON.
-pub(crate) fn json_of(alloc: Global, document: &str) -> Result<Option<Value>, Memory> {
+pub fn json_of(alloc: Global, document: &str) -> Result<Option<Value>, Memory> {
     match Value::from_str(alloc, document) {
         Ok(value) => Ok(Some(value)),
         Err(error) if error.is_memory() => Err(AllocError),
@@ -18,21 +15,26 @@ pub(crate) fn json_of(alloc: Global, document: &str) -> Result<Option<Value>, Me
     }
 }
 
-/// Appends the line and column where a document stops being JSON, and that line with a caret. If its tokens are in
-/// order, the fault is a number that is too large or half a surrogate pair, and there is no note.
+/// Returns the line and column where a document stops being JSON. If its tokens are in order, the fault is a number that
+/// is too large or half a surrogate pair, and has no location.
+pub fn json_place(alloc: Global, document: &str) -> Result<Option<(u64, u64)>, Memory> {
+    match fault_at(alloc, document)? {
+        None => Ok(None),
+        Some(byte) => Ok(Some(place_of(document, byte))),
+    }
+}
+
+/// Appends the line where a document stops being JSON, with a caret; nothing if that has no location.
 pub(crate) fn note_json(
     alloc: Global,
     text: &mut String,
     section: Section<'_>,
 ) -> Result<(), Memory> {
     let document = section.text;
-    let Some(byte) = fault_at(alloc, document)? else {
+    let Some((line, column)) = json_place(alloc, document)? else {
         return Ok(());
     };
-    let (line, column) = place_of(document, byte);
-    begin_line(text)?;
-    write!(text, "line {line}, column {column}")?;
-    write_input_line(text, section, line)?;
+    section.line(line).note(text, "")?;
     write_excerpt(text, document, line, column)?;
     note_header(text, line_at(document, line))
 }

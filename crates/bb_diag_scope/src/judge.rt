@@ -1,8 +1,8 @@
 //! What is known before a statement: the names in scope, what they hold, and the part. It is read from the tokens
 //! before the statement.
 
-use crate::scope::kinds::kind_of;
-use crate::scope::statement::{Statement, until_end, word_at};
+use crate::kinds::kind_of;
+use crate::statement::{Statement, until_end, word_at};
 use bb_basis::Memory;
 use bb_code::Kind;
 use bb_compile_scope::{ClassId, class_of, link_slot};
