@@ -3,7 +3,7 @@
 //! - In: a text of sources, and the line and column of a fault.
 //! - Out: `look`, a `Spot`: the tokens around a location, the tokens expected there, the open brackets, and the parts that
 //!   the source has so far; `list_sources` and `source_tokens`, the tokens of sources; `Pieces`, a text cut where sources
-//!   begin; `Operators`, the operators of other languages in a piece.
+//!   begin; `Operators`, the operators of other languages in a piece; `FirstFocus`, a focus among the initial units.
 //! - Callers rely on: the parser (bb_lang) decides what a text is; the grammar here only serves messages, and a `Spot`
 //!   expects nothing if this grammar lacks the tokens before it.
 //! - Family: bb_diag_place shows pieces of an input, and is handed on here; bb_diag_syntax writes sentences from a `Spot`;
@@ -11,6 +11,7 @@
 //! - Cases: `sentences`.
 #![tactic(auto)]
 
+mod first_focus;
 mod listed;
 mod operators;
 mod outer_rules;
@@ -27,6 +28,7 @@ pub use bb_diag_place::{
     Section, SectionLine, begin_line, fault_at, line_at, note_header, write_excerpt,
     write_excerpt_at, write_note, write_phrase, write_quoted, write_shown, write_whole_line,
 };
+pub use first_focus::FirstFocus;
 pub use listed::{ListedSource, SourceTokens, list_sources, source_line, source_tokens};
 pub use operators::Operators;
 pub use pieces::{Piece, Pieces};

@@ -3,16 +3,18 @@
 ghost use Rattle.bb_lint.specs.proving.Admitted.{AreAdmitted};
 
 use crate::finds::Admitted;
+use crate::first_foci::write_foci;
 use crate::mistaken::source_names;
 use crate::rating::{any_makes_focus, stays_below};
+use crate::repeating::{is_repeated, write_repeated};
 use crate::reserved::write_reserved;
 use crate::sentence::{Part, write_code, write_empty_finds, write_mistakes};
 use crate::source_sentence::{write_clauses, write_never_rates, write_rating, write_restless};
 use crate::triggered::{is_restless, never_rates};
 use bb_basis::{Memory, Names};
 use bb_board::Note;
-use bb_diag_text::Section;
-use bb_lint_parts::{Possible, SourceSites, Texts, write_costs};
+use bb_diag_text::{FirstFocus, Section};
+use bb_lint_parts::{Costed, Crowds, Possible, SourceSites, Texts, write_costs};
 use bb_rules::Source;
 use bb_schema::Schema;
 use std::alloc::Global;
@@ -26,6 +28,8 @@ pub struct Accepted<'a> {
     pub text: Section<'a>,
     /// What the initial units note, or `None` if they are refused or unknown.
     pub first: Option<&'a [Note]>,
+    /// The foci among the initial units.
+    pub foci: &'a [FirstFocus],
     /// The floor of a run.
     pub floor: i64,
 }
@@ -41,7 +45,7 @@ struct Known {
 }
 
 /// Returns the advice on an accepted input for people; every line ends in a line feed. First come warnings about
-/// definite mistakes: names in the schema, then source by source and part by part. Then, if there are sources, come a
+/// definite mistakes: names in the schema, foci among the initial units, then source by source and part by part. Then, if there are sources, come a
 /// table of what their parts cost and the costs that depend on what exists. A warning about a source that is text has
 /// its line and column, and the line of the input with a caret below; one about bytecode has the op. `Memory`: memory
 /// ran out.
@@ -62,13 +66,21 @@ pub fn advice(alloc: Global, input: Accepted<'_>) -> Result<String, Memory> {
         possible: Possible::of(alloc, schema, sources, first)?,
         raised: any_makes_focus(schema, sources),
     };
+    write_foci(&mut text, schema, &known.names, input.foci)?;
     for (index, source) in sources.iter().enumerate() {
         let sites = texts.sites(alloc, index, source)?;
         write_codes(alloc, &mut text, schema, &known, source, &sites)?;
-        write_source(&mut text, schema, &known, floor, source, &sites)?;
+        write_source(alloc, &mut text, schema, &known, floor, source, &sites)?;
     }
     if !sources.is_empty() {
-        write_costs(alloc, &mut text, schema, &texts, sources)?;
+        let crowds = Crowds::of(alloc, schema, sources, first)?;
+        let costed = Costed {
+            schema,
+            texts: &texts,
+            sources,
+            crowds: &crowds,
+        };
+        write_costs(alloc, &mut text, costed)?;
     }
     Ok(text)
 }
@@ -102,6 +114,7 @@ fn write_codes(
 
 // Appends the warnings about a source as a whole.
 fn write_source(
+    alloc: Global,
     text: &mut String,
     schema: &Schema,
     known: &Known,
@@ -115,6 +128,9 @@ fn write_source(
     }
     if is_restless(floor, source) {
         write_restless(text, source, sites)?;
+    }
+    if let Some(index) = is_repeated(alloc, schema, floor, source)? {
+        write_repeated(text, source, sites, index)?;
     }
     if stays_below(known.raised, floor, source) {
         write_rating(text, source, sites, floor)?;

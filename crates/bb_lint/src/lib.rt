@@ -10,8 +10,10 @@
 
 mod advising;
 mod finds;
+mod first_foci;
 mod mistaken;
 mod rating;
+mod repeating;
 mod reserved;
 mod sentence;
 mod source_sentence;

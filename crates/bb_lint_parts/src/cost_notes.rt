@@ -2,12 +2,13 @@
 //! no test bounds, and searches used only to learn whether anything is found. `write_costs` writes them below the
 //! table.
 
+use crate::costs::Costed;
 use crate::existence::asks_for_one;
 use crate::op_sites::OpSites;
 use crate::site::{Site, Subject};
-use crate::source_sites::{SourceSites, Texts};
+use crate::source_sites::SourceSites;
 use bb_basis::Memory;
-use bb_code::{Code, Node, Op, Place, Query};
+use bb_code::{ClassId, Code, Node, Op, Place, Query};
 use bb_rules::{Reaction, Source};
 use bb_schema::Schema;
 use bb_verify::Checked;
@@ -36,6 +37,27 @@ fn begin(text: &mut String, name: &str, part: &str, site: Site<'_>) -> Result<()
     site.begin_in_line(text, subject)
 }
 
+// Returns whether an op searches a space that can hold many units. The number of all units of a class in a space that
+// admits no others is known without a search.
+fn is_dear(costed: Costed<'_>, code: &Code, place: Place) -> bool {
+    let Some(Op::Find(index)) = code.op(place as usize) else {
+        return false;
+    };
+    let Some(query) = code.queries().get(index as usize) else {
+        return false;
+    };
+    let is_counted = code.op(place.saturating_add(1) as usize) == Some(Op::Size);
+    if is_counted && matches!(query.pattern.node(), Node::All) {
+        let schema = costed.schema;
+        let count = schema.class_count() as ClassId;
+        let admits_others = (0..count).any(|class| {
+            schema.allowed(query.space, class) && !schema.descends(class, query.class)
+        });
+        return admits_others && costed.crowds.is_large(query.space);
+    }
+    costed.crowds.is_large(query.space)
+}
+
 // Appends the further costs of an op's search.
 fn write_search(
     text: &mut String,
@@ -61,7 +83,7 @@ fn write_search(
     if asks_for_one(checked, place) {
         begin(text, name, part, sites.at(place, op))?;
         text.push_str(
-            "it lists all that it finds, and its size only tells whether there is one; ",
+            "it counts all that it finds, and its size only tells whether there is one; ",
         )?;
         text.push_str("have tests leave few, or keep the number in a slot\n")?;
     }
@@ -92,7 +114,7 @@ fn write_reaction(
 fn write_notes_on(
     alloc: Global,
     text: &mut String,
-    schema: &Schema,
+    costed: Costed<'_>,
     source: &Source,
     sites: &SourceSites<'_>,
 ) -> Result<(), Memory> {
@@ -109,7 +131,9 @@ fn write_notes_on(
             let ops = sites.ops(alloc, checked)?;
             let count = checked.code().ops().len() as Place;
             for place in 0..count {
-                write_search(text, schema, name, checked, &ops, place)?;
+                if is_dear(costed, checked.code(), place) {
+                    write_search(text, costed.schema, name, checked, &ops, place)?;
+                }
             }
         }
     }
@@ -117,17 +141,15 @@ fn write_notes_on(
 }
 
 /// Appends the costs that depend on what exists: the reactions of every source, and its searches that cost more than
-/// needed.
+/// needed in spaces that can hold many units.
 pub(crate) fn write_cost_notes(
     alloc: Global,
     text: &mut String,
-    schema: &Schema,
-    texts: &Texts<'_>,
-    sources: &[Source],
+    costed: Costed<'_>,
 ) -> Result<(), Memory> {
-    for (index, source) in sources.iter().enumerate() {
-        let sites = texts.sites(alloc, index, source)?;
-        write_notes_on(alloc, text, schema, source, &sites)?;
+    for (index, source) in costed.sources.iter().enumerate() {
+        let sites = costed.texts.sites(alloc, index, source)?;
+        write_notes_on(alloc, text, costed, source, &sites)?;
     }
     Ok(())
 }

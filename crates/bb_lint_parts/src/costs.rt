@@ -1,6 +1,7 @@
 //! The table of what the parts of sources cost, and the lines below it. `advice` (bb_lint) writes it.
 
 use crate::cost_notes::write_cost_notes;
+use crate::crowds::Crowds;
 use crate::source_sites::Texts;
 use crate::widths::{NUMBERS, Widths, write_left, write_number, write_right};
 use bb_basis::Memory;
@@ -82,15 +83,19 @@ fn write_lines(text: &mut String, widths: &Widths, source: &Source) -> Result<()
     Ok(())
 }
 
+/// Sources whose costs are told, and what is known of them.
+#[derive(Clone, Copy)]
+pub struct Costed<'a> {
+    pub schema: &'a Schema,
+    pub texts: &'a Texts<'a>,
+    pub sources: &'a [Source],
+    pub crowds: &'a Crowds,
+}
+
 /// Appends a table of what the parts of sources cost, with heads and a line for each part of each source, and then the
 /// costs that depend on what exists.
-pub fn write_costs(
-    alloc: Global,
-    text: &mut String,
-    schema: &Schema,
-    texts: &Texts<'_>,
-    sources: &[Source],
-) -> Result<(), Memory> {
+pub fn write_costs(alloc: Global, text: &mut String, costed: Costed<'_>) -> Result<(), Memory> {
+    let sources = costed.sources;
     let mut widths = Widths::of("source", &HEADS);
     for source in sources {
         fit(&mut widths, source);
@@ -99,5 +104,5 @@ pub fn write_costs(
     for source in sources {
         write_lines(text, &widths, source)?;
     }
-    write_cost_notes(alloc, text, schema, texts, sources)
+    write_cost_notes(alloc, text, costed)
 }

@@ -3,7 +3,7 @@
 //!
 //! - In: a schema, sources with the section of their text, and the notes of the initial units.
 //! - Out: a `Site` for each op, clause and part, which writes where that is; `Possible`, which tells whether a run can
-//!   have a kind of change for a class; `write_costs`, which appends a table of costs, and a line for each cost that no
+//!   have a kind of change for a class; `Crowds`, which spaces can hold many units; `write_costs`, which appends a table of costs, and a line for each cost that no
 //!   budget shows.
 //! - Callers rely on: what is not possible happens in no run of these sources from these initial units; what is
 //!   possible may still never happen. The compiler keeps no locations, so they are read from the tokens again: a site
@@ -15,6 +15,7 @@
 mod adding;
 mod cost_notes;
 mod costs;
+mod crowds;
 mod existence;
 mod op_sites;
 mod outline;
@@ -25,7 +26,8 @@ mod source_sites;
 mod spot;
 mod widths;
 
-pub use costs::write_costs;
+pub use costs::{Costed, write_costs};
+pub use crowds::Crowds;
 pub use op_sites::OpSites;
 pub use possible::Possible;
 pub use site::{Origin, Site, Subject};

@@ -40,6 +40,17 @@ impl Possible {
         Ok(possible)
     }
 
+    /// Returns what the act of one source can change.
+    pub fn of_source(alloc: Global, schema: &Schema, source: &Source) -> Result<Possible, Memory> {
+        let mut possible = Possible {
+            is_open: false,
+            exact: KindIndex::new(alloc),
+            below: KindIndex::new(alloc),
+        };
+        possible.add_act(schema, &source.parts().act)?;
+        Ok(possible)
+    }
+
     /// Returns whether a change can happen to a unit of a class, or of one below it.
     pub fn can_happen(&self, schema: &Schema, kind: ChangeKind, class: ClassId) -> bool {
         self.is_open || self.is_noted(schema, kind, class) || self.can_follow(schema, kind, class)

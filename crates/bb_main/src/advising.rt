@@ -17,19 +17,22 @@ pub(crate) fn advice_on<'a>(
 ) -> Result<String, Memory> {
     let input = input_of(sections);
     let mut text = String::new(alloc);
-    let noted = match read_first_units(alloc, input)? {
-        Some(FirstUnits::Noted(notes)) => Some(notes),
-        Some(FirstUnits::Refused(report)) => {
-            writeln!(text, "{report}")?;
-            None
+    let mut noted = None;
+    let mut first_foci = Vec::new(alloc);
+    match read_first_units(alloc, input)? {
+        Some(FirstUnits::Noted { notes, foci }) => {
+            noted = Some(notes);
+            first_foci = foci;
         }
-        None => None,
-    };
+        Some(FirstUnits::Refused(report)) => writeln!(text, "{report}")?,
+        None => {}
+    }
     let accepted = Accepted {
         schema: &checked.schema,
         sources: checked.sources.as_slice(),
         text: input.text_of_sources(),
         first: noted.as_deref(),
+        foci: first_foci.as_slice(),
         floor,
     };
     let advice = advice(alloc, accepted)?;
