@@ -24,7 +24,8 @@ pub struct Input<'a> {
     pub units: &'a str,
     pub sources: &'a str,
     pub bundle: &'a str,
-    /// The whole input, if the sections were cut from one. Its lines are then shown besides those of a section.
+    /// The whole input, if the sections were cut from one. Messages then begin with its lines, as `input:7:12: `, else with
+    /// those of a section, as `%sources:4:12: `.
     pub whole: Option<&'a str>,
 }
 
