@@ -3,17 +3,15 @@
 const MOVE = /^(link|unlink|enter|leave) \d+(?:\.(\w+))? (\w+)$/;
 
 class Board {
-  constructor(run, { until, why, isLost, slots, texts, steps, moves }) {
-    Object.assign(this, { run, why, isLost, gap: run.stepById.get("gap"), until: until || Infinity });
+  constructor(run, { until, why, isLost, slots, texts, values, moves }) {
+    Object.assign(this, { run, why, isLost, gap: run.others.get("gap"), until: until || Infinity });
     this.isTold = until !== 1;
-    for (const unit of run.units) Object.assign(unit, { values: new Map(), moves: [] });
-    steps.forEach((rows, index) => {
-      for (const [number, slot, text] of rows) {
-        const { values } = run.unitOf.get(number);
-        if (!values.has(slots[slot])) values.set(slots[slot], []);
-        values.get(slots[slot]).push({ step: run.steps[index], text: texts[text] });
-      }
-    });
+    for (let at = 0; at < values.length; at += 4) {
+      const held = run.unitOf.get(values[at + 1]).values;
+      const slot = slots[values[at + 2]];
+      if (!held.has(slot)) held.set(slot, []);
+      held.get(slot).push({ step: run.steps[values[at]], text: texts[values[at + 3]] });
+    }
     for (const [number, slot, to, isThere] of moves) run.unitOf.get(number)?.moves.push({ slot, to, isThere });
   }
 
@@ -76,5 +74,3 @@ class Board {
     return this.run.steps.slice(0, step.index + 1).some((it) => it.missing > 0);
   }
 }
-
-run.board = new Board(run, JSON.parse(document.getElementById("run").textContent).board);

@@ -1,20 +1,18 @@
 // The lines of the trace, of which only those in view are nodes.
 
 const ROW = 21;
+
+// How tall a browser lets an element be, by far: with more lines than fit, the bar for scrolling moves by more than it
+// is moved.
+const TALLEST = 8_000_000;
+
 const INSIDE = /^(create|set|link|unlink|enter|leave|delete|say|refused|end|invalid)\b/;
 
 class Lines {
   constructor(box) {
     Object.assign(this, { box, rows: box.querySelector(".rows"), step: null, selected: 0 });
-    Object.assign(this, { hits: new Set(), about: new Set() });
-    let count = 0;
-    for (const step of run.steps) {
-      step.row = count;
-      count += step.kept + (step.missing || step.kind === "gap" ? 1 : 0);
-    }
-    this.count = count + (run.cut ? 1 : 0);
-    this.rows.style.setProperty("--numbers", `${Math.max(3, String(run.totals.lines).length)}ch`);
-    this.rows.style.height = `${this.count * ROW + 12}px`;
+    Object.assign(this, { hits: new Hits(), about: new Set() });
+    this.take();
     box.addEventListener("scroll", () => this.draw(), { passive: true });
     new ResizeObserver(() => this.draw()).observe(box);
     this.rows.addEventListener("click", (event) => {
@@ -23,18 +21,41 @@ class Lines {
     });
   }
 
+  // Shows the lines of another run, or more lines.
+  take() {
+    let count = 0;
+    for (const step of run.steps) {
+      step.row = count;
+      count += step.kept + (step.missing || step.kind === "gap" ? 1 : 0);
+    }
+    this.count = count + (run.cut ? 1 : 0);
+    this.high = this.count * ROW + 12;
+    this.rows.style.setProperty("--numbers", `${Math.max(3, String(run.totals.lines).length)}ch`);
+    this.rows.style.height = `${Math.min(this.high, TALLEST)}px`;
+  }
+
+  // How far all lines move while the bar for scrolling moves by 1.
+  get scale() {
+    const { clientHeight } = this.box;
+    return this.high > TALLEST ? (this.high - clientHeight) / (TALLEST - clientHeight) : 1;
+  }
+
   // Shows a step, or a line of it, and marks the lines that are about what is selected.
   show(step, line, about) {
     Object.assign(this, { step, selected: line, about });
-    const [from, high] = [this.box.scrollTop, this.box.clientHeight];
+    const [from, high] = [this.box.scrollTop * this.scale, this.box.clientHeight];
     const top = (line ? step.row + Math.min(line - step.first, step.kept) : step.row) * ROW;
     const tall = line ? ROW : Math.min((step.kept + 1) * ROW, high - 2 * ROW);
-    if (top < from + ROW || top + tall > from + high - ROW) this.box.scrollTop = top - Math.min(high / 4, 3 * ROW);
+    if (top < from + ROW || top + tall > from + high - ROW) {
+      this.box.scrollTop = (top - Math.min(high / 4, 3 * ROW)) / this.scale;
+    }
     this.draw();
   }
 
   draw() {
-    const first = Math.max(0, Math.floor(this.box.scrollTop / ROW) - 4);
+    const from = this.box.scrollTop;
+    this.shift = from - from * this.scale;
+    const first = Math.max(0, Math.floor((from * this.scale) / ROW) - 4);
     const last = Math.min(this.count, first + Math.ceil(this.box.clientHeight / ROW) + 10);
     this.rows.replaceChildren(...Array.from({ length: last - first }, (_, it) => this.row(first + it)));
   }
@@ -42,13 +63,13 @@ class Lines {
   row(index) {
     const step = run.steps[firstWhere(run.steps.length, (it) => run.steps[it].row > index) - 1];
     const place = index - step.row;
-    const text = place < step.kept ? run.lines[step.at + place] : null;
+    const text = place < step.kept ? run.texts.at(step.at + place) : null;
     const number = text === null ? 0 : step.first + place;
     const made = html("div", { class: this.classes(step, number, text), "data-line": number || null },
       html("span", { class: "line-number" }, number ? String(number) : ""),
       html("code", {}, text === null ? this.lost(step, place) : [told(text), setTold(number, text), namesIn(text)]));
     if (text?.length > 50) made.title = text;
-    made.style.top = `${index * ROW + 6}px`;
+    made.style.top = `${index * ROW + 6 + this.shift}px`;
     return made;
   }
 

@@ -20,12 +20,12 @@ function showTotals() {
   const { lines, cycles, activations, units } = run.totals;
   const counts = { cycle: cycles, activation: activations, source: run.sources.length, unit: units, line: lines };
   const total = ([name, count]) => html("li", {}, bold(count.toLocaleString("en")), count === 1 ? name : `${name}s`);
-  at(".totals").append(...Object.entries(counts).map(total));
-  if (saidLines().length) at(".totals").append(html("li", {}, link("said-all", "what was said")));
+  const said = saidLines().length > 0 && html("li", {}, link("said-all", "what was said"));
+  at(".totals").replaceChildren(...[...Object.entries(counts).map(total), said].filter(Boolean));
   const state = at(".state");
   state.textContent = run.finish ? `finish ${run.finish}` : lines ? "cut" : "empty";
   state.title = finishMeaning();
-  state.classList.add(run.finish || "cut");
+  state.className = `state ${run.finish || "cut"}`;
 }
 
 function showNotices() {
@@ -34,7 +34,7 @@ function showNotices() {
   const cut = isCut && html("p", {},
     "This trace is cut: it has no ", html("code", {}, "finish"), " line, so memory ran out or the output failed. ",
     "What was written before is shown.", run.cut && " Its last line was not ended, and is left out of the picture.");
-  const gap = run.stepById.get("gap")?.index;
+  const gap = run.others.get("gap")?.index;
   const kept = (steps) => steps.filter((it) => it.cycle).length.toLocaleString("en");
   const long = dropped > 0 && html("p", {},
     `The run is too long for one page: of its ${plural(cycles, "cycle")} the first ${kept(run.steps.slice(0, gap))} `,
@@ -43,9 +43,9 @@ function showNotices() {
     "What was rated below 0 acted, so the run had a floor of its own, and this page tells of none. Give it too: ",
     html("code", {}, "tools/see --floor=N"));
   const why = run.board.isTold && whyNoValues();
-  at(".notices").append(...[cut, long, floor, why && html("p", {}, why)].filter(Boolean));
+  at(".notices").replaceChildren(...[cut, long, floor, why && html("p", {}, why)].filter(Boolean));
   at(".whole span").textContent = dropped > 0 ? "All that is shown" : "Whole run";
-  at(".whole span").style.width = `${LABELS - 14}px`;
+  at(".whole span").style.width = `${timeline.labels - 14}px`;
 }
 
 function showKeys() {
@@ -83,7 +83,7 @@ function stepOfLife({ from, to }, now) {
 function show() {
   if (!run.totals.lines) return;
   const id = decodeURIComponent(location.hash.slice(1));
-  const step = run.stepById.get(id);
+  const step = run.named(id);
   const [, sort, name] = /^([a-z]+)-(.+)$/.exec(id) ?? [];
   const item = step ?? NAMEABLE[sort]?.of(name);
   if (!item) return go(firstStep().id, true);
@@ -118,16 +118,21 @@ function showNothing() {
   at("search").hidden = true;
 }
 
+function showTooOld() {
+  at("main").replaceWith(html("div", { class: "nothing" }, html("h2", {}, "This browser is too old for this page"),
+    html("p", {}, "It needs Chromium 123, Firefox 120, Safari 17.5, or a later one.")));
+}
+
 // ---- finding
 
-let hits = [];
+let hits = new Hits();
 
 function find() {
   const text = input.value.trim();
   const found = text ? run.find(text) : { sources: [], units: [], lines: [] };
-  hits = found.lines;
-  timeline.hits = hits;
-  lines.hits = new Set(hits);
+  hits = new Hits(found.lines);
+  timeline.hits = hits.stepsOf(run);
+  lines.hits = hits;
   timeline.refresh();
   lines.draw();
   document.body.classList.toggle("finding", text !== "");
@@ -162,7 +167,7 @@ function nextHit(by) {
   if (!hits.length) return;
   const place = hits.indexOf(lineNow());
   const next = place < 0 && by < 0 ? hits.length - 1 : (place + by + hits.length) % hits.length;
-  go(`line-${hits[next]}`, true);
+  go(`line-${hits.numbers[next]}`, true);
   tellHit();
 }
 
@@ -219,19 +224,40 @@ function pressed(event) {
 
 // ---- the start
 
-const timeline = new Timeline(run, at(".timeline"), (step) => go(step.id));
-const lines = new Lines(at(".trace"));
-showTotals();
-showNotices();
-showKeys();
-at(".theme").addEventListener("click", switchTheme);
-if (run.totals.lines) {
+let timeline = null;
+let lines = null;
+
+// Shows a run, in place of the one that was shown.
+function take(other) {
+  run = other;
+  if (timeline) timeline.take(run);
+  else timeline = new Timeline(run, at(".timeline"), (step) => go(step.id));
+  if (lines) lines.take();
+  else lines = new Lines(at(".trace"));
+  showTotals();
+  showNotices();
+}
+
+function listen() {
   for (const [name, act] of Object.entries(BUTTONS)) at(`button.${name}`).addEventListener("click", act);
   document.addEventListener("keydown", pressed);
   input.addEventListener("input", find);
   addEventListener("hashchange", show);
   addEventListener("popstate", show);
-  show();
-} else {
-  showNothing();
 }
+
+async function start() {
+  at(".theme").addEventListener("click", switchTheme);
+  if (!globalThis.DecompressionStream || !Map.groupBy) return showTooOld();
+  take(await unpackedAt("run"));
+  showKeys();
+  if (run.totals.lines) {
+    listen();
+    show();
+  } else {
+    showNothing();
+  }
+  document.body.dataset.state = "shown";
+}
+
+start();

@@ -81,7 +81,7 @@ function saidValues(text) {
 function toldWord(sort, word) {
   if (sort === "act") return actLink(Number(word));
   if (sort === "source") return sourceLink(word);
-  if (sort === "cycle") return run.stepById.has(`cycle-${word}`) ? link(`cycle-${word}`, word) : word;
+  if (sort === "cycle") return run.named(`cycle-${word}`) ? link(`cycle-${word}`, word) : word;
   if (sort !== "unit") return word;
   const [number, slot] = word.split(".");
   return [unitLink(Number(number)), slot && `.${slot}`];

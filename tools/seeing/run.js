@@ -15,32 +15,53 @@ function firstWhere(length, is) {
   return low;
 }
 
-class Run {
-  constructor(data) {
-    Object.assign(this, { finish: data.finish, cut: data.cut, totals: data.totals });
-    this.lines = data.text === "" ? [] : data.text.split("\n");
-    this.sources = data.sources.map(([name, counts], index) => ({ name, index, counts }));
-    this.steps = [];
-    for (const [kind, cycle, first, kept, missing, act, rating, waiting] of data.steps) {
-      const before = this.steps.at(-1);
-      const at = before ? before.at + before.kept : 0;
-      const step = { index: this.steps.length, kind, cycle, first, kept, missing, act, waiting, at };
-      this.steps.push(Object.assign(step, { rating: act ? BigInt(rating) : null }));
+// The lines that a text was found in, by their rising numbers.
+class Hits {
+  constructor(numbers = []) {
+    this.numbers = numbers;
+  }
+
+  get length() {
+    return this.numbers.length;
+  }
+
+  indexOf(number) {
+    const at = firstWhere(this.length, (it) => this.numbers[it] >= number);
+    return this.numbers[at] === number ? at : -1;
+  }
+
+  has(number) {
+    return this.indexOf(number) >= 0;
+  }
+
+  // The steps that they are in.
+  stepsOf(run) {
+    const found = [];
+    let index = 0;
+    for (const number of this.numbers) {
+      while (run.steps[index + 1]?.first <= number) index += 1;
+      if (found.at(-1) !== index) found.push(index);
     }
-    this.acts = data.acts.map(([number, source, unit, fate, ended, bases]) => ({
-      ...{ number, source: this.sources[source], unit, fate, ended },
-      bases: bases.map(([line, base]) => [line, BigInt(base)]),
-    }));
+    return found;
+  }
+}
+
+class Run {
+  constructor(data, text) {
+    Object.assign(this, { finish: data.finish, cut: data.cut, totals: data.totals, causes: data.causes });
+    this.texts = new Texts(text);
+    this.sources = data.sources.map(([name, counts], index) => ({ name, index, counts }));
+    this.steps = stepsOf(data.steps);
+    this.acts = data.acts.number.map((_, index) => new Act(data.acts, index, this.sources));
     this.actOf = new Map(this.acts.map((act) => [act.number, act]));
-    this.units = data.units.map(([number, of, created, deleted]) => ({
-      ...{ number, of: data.classes[of], created, deleted, changes: [], acts: [] },
-    }));
+    for (const [number, later] of data.bases) this.actOf.get(number).later = later;
+    this.units = data.units.number.map((_, index) => new Unit(data.units, index, data.classes));
     this.unitOf = new Map(this.units.map((unit) => [unit.number, unit]));
     for (const act of this.acts) this.unitOf.get(act.unit)?.acts.push(act);
     this.floor = data.floor === null ? null : BigInt(data.floor);
     this.foci = [];
     if (data.given) this.takeInput(data.given);
-    this.indexLines(data.causes);
+    this.indexChanges();
     this.nameSteps();
     this.after = { kind: this.finish === "quiescence" ? "quiescence" : "end", act: 0, first: this.totals.lines + 1 };
   }
@@ -61,27 +82,31 @@ class Run {
     this.foci = foci.map(([number, since]) => Object.assign(this.unitOf.get(number), { since }));
   }
 
-  // The changes of each unit, and the causes of each reaction.
-  indexLines(causes) {
-    this.causes = new Map();
-    let next = 0;
+  // The changes of each unit.
+  indexChanges() {
     for (const step of this.steps) {
       for (let at = 0; at < step.kept; at++) {
-        const text = this.lines[step.at + at];
-        const change = CHANGE.exec(text);
-        if (change) this.unitOf.get(Number(change[2])).changes.push(step.first + at);
-        else if (REACTION.test(text)) this.causes.set(step.first + at, causes[next++]);
+        if (!this.texts.isChange(step.at + at)) continue;
+        const [, , unit] = CHANGE.exec(this.texts.at(step.at + at));
+        this.unitOf.get(Number(unit)).changes.push(step.first + at);
       }
     }
   }
 
   nameSteps() {
     const counts = { quiescence: 0, post: 0 };
-    for (const step of this.steps) {
-      if (step.kind in counts) counts[step.kind] += 1;
-      step.id = step.cycle ? `cycle-${step.cycle}` : step.kind in counts ? `${step.kind}-${counts[step.kind]}` : step.kind;
-    }
-    this.stepById = new Map(this.steps.map((step) => [step.id, step]));
+    this.cycles = this.steps.filter((step) => step.cycle);
+    const others = this.steps.filter((step) => !step.cycle);
+    for (const step of others) if (step.kind in counts) step.ordinal = counts[step.kind] += 1;
+    this.others = new Map(others.map((step) => [step.id, step]));
+  }
+
+  // The step of an address.
+  named(id) {
+    const cycle = Number(/^cycle-(\d+)$/.exec(id)?.[1]);
+    if (!cycle) return this.others.get(id);
+    const found = this.cycles[firstWhere(this.cycles.length, (at) => this.cycles[at].cycle >= cycle)];
+    return found?.cycle === cycle ? found : undefined;
   }
 
   // ---- lines
@@ -92,27 +117,29 @@ class Run {
 
   textAt(line) {
     const step = this.stepAt(line);
-    return step && line - step.first < step.kept ? this.lines[step.at + line - step.first] : null;
+    return step && line - step.first < step.kept ? this.texts.at(step.at + line - step.first) : null;
   }
 
-  // The number of the line that stands at a place of `lines`.
-  numberAt(place) {
-    const step = this.steps[firstWhere(this.steps.length, (it) => this.steps[it].at > place) - 1];
-    return step.first + place - step.at;
+  // The numbers of the lines that stand at these places, which rise.
+  *numbersAt(places) {
+    let index = 0;
+    for (const place of places) {
+      while (index + 1 < this.steps.length && this.steps[index + 1].at <= place) index += 1;
+      yield this.steps[index].first + place - this.steps[index].at;
+    }
   }
 
   linesOf(step) {
-    step.lines ??= Array.from({ length: step.kept }, (_, at) => ({
-      number: step.first + at,
-      text: this.lines[step.at + at],
-      word: this.lines[step.at + at].split(" ", 1)[0],
-    }));
+    step.lines ??= Array.from({ length: step.kept }, (_, at) => {
+      const text = this.texts.at(step.at + at);
+      return { number: step.first + at, text, word: text.split(" ", 1)[0] };
+    });
     return step.lines;
   }
 
   // The changes that a reaction can be an answer to: those of its unit, where it names one.
   causesOf(line) {
-    const [first, last] = this.causes.get(line) ?? [1, 0];
+    const [first, last] = this.boundsOf(line);
     const unit = / unit (\d+)/.exec(this.textAt(line))?.[1];
     const found = [];
     for (let at = first; at <= last; at++) {
@@ -121,6 +148,15 @@ class Run {
       if (text === "quiescence" || (change && (!unit || change[2] === unit))) found.push(at);
     }
     return found;
+  }
+
+  // The first and the last line that a reaction may answer; of another line none.
+  boundsOf(line) {
+    const step = this.stepAt(line);
+    const own = this.linesOf(step).filter((it) => it.number <= line && REACTION.test(it.text));
+    if (own.at(-1)?.number !== line) return [1, 0];
+    const at = 2 * (step.answered + own.length - 1);
+    return [step.first + this.causes[at], step.first + this.causes[at + 1]];
   }
 
   // ---- steps
@@ -134,13 +170,13 @@ class Run {
 
   // Whether a cycle's choice was not executed.
   isInvalid(step) {
-    return step.kept > 1 && this.lines[step.at + 1].startsWith("invalid ");
+    return step.kept > 1 && this.texts.begins(step.at + 1, "invalid ");
   }
 
   // ---- activations
 
   triggerOf(act) {
-    return act.bases[0][0];
+    return act.trigger;
   }
 
   // How many of its bases came before a line.
@@ -247,14 +283,15 @@ class Run {
 
   // Whether it waited in cycles that are not shown.
   isAcrossGap(act) {
-    const gap = this.stepById.get("gap");
+    const gap = this.others.get("gap");
     if (!gap || this.triggerOf(act) >= this.steps[gap.index + 1].first) return false;
     return !act.ended || act.ended >= gap.first;
   }
 
   // Whether cycles or lines of the run are not in the page, so that what is counted here is not all.
   get isPartial() {
-    return this.totals.dropped > 0 || this.steps.some((it) => it.missing > 0);
+    this.lacks ??= this.totals.dropped > 0 || this.steps.some((it) => it.missing > 0);
+    return this.lacks;
   }
 
   // ---- units
@@ -273,15 +310,14 @@ class Run {
     const sources = this.sources.filter((it) => it.name.includes(wanted));
     const isCalled = (it) => it.of.includes(wanted) || it.name?.toLowerCase().includes(wanted);
     const units = this.units.filter((it) => String(it.number) === number || isCalled(it));
-    this.lowered ??= this.lines.map((it) => it.toLowerCase());
-    const lines = [];
     const within = wanted.startsWith("#") && number ? new RegExp(`(?:^\\w+ |unit |#)${number}(?![0-9])`) : null;
-    for (let at = 0; at < this.lowered.length; at++) {
-      if (within ? within.test(this.lowered[at]) : this.lowered[at].includes(wanted)) lines.push(this.numberAt(at));
-    }
+    const places = within
+      ? this.texts.lowered.having(number, (it) => within.test(it))
+      : this.texts.lowered.having(wanted);
+    const lines = [...this.numbersAt(places)];
     return { sources, units, lines };
   }
 }
 
-// The run of this page.
-const run = new Run(JSON.parse(document.getElementById("run").textContent));
+// The run that the page shows.
+let run = null;

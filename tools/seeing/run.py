@@ -8,10 +8,10 @@ from gap import Gap
 from given import Given
 
 # What a page can bear: so many characters of the first steps, as many of the last ones, of one step, and of one line.
-# The values at the end of a step count too, each with what stands around it.
+# The values at the end of a step count too, each with what stands around it. 100,000 cycles have some 40 million.
 LINE_COSTS = 40
 VALUE_COSTS = 16
-ENDS_LIMIT = 6_000_000
+ENDS_LIMIT = 60_000_000
 STEP_LIMIT = 1_000_000
 LINE_LIMIT = 2_000
 

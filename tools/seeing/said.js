@@ -2,8 +2,10 @@
 
 // The lines that say something, with the activation that acted; a post has none.
 function saidLines() {
-  run.said ??= run.steps.flatMap((step) => run.linesOf(step).filter((it) => it.word === "say")
-    .map((it) => ({ ...it, step, act: step.act ? run.actOf.get(step.act) : null })));
+  run.said ??= [...run.numbersAt(run.texts.having("say", (it) => /^say\b/.test(it)))].map((number) => {
+    const step = run.stepAt(number);
+    return { number, text: run.textAt(number), step, act: step.act ? run.actOf.get(step.act) : null };
+  });
   return run.said;
 }
 

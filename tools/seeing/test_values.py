@@ -8,11 +8,12 @@ import sys
 import tempfile
 from types import SimpleNamespace
 
+import page
 import replay
 import run as runs
 from gap import Gap
 from replay import VARIABLE, Replay
-from trying import TOOLS, Skipped, data_of, input_of, refusal_of, run_of, see, shown, tool, trace_of
+from trying import TOOLS, Skipped, data_of, input_of, refusal_of, run_of, see, shown, trace_of
 
 sys.path.append(str(TOOLS.parent / "bindings/python"))
 import railcitron  # noqa: E402
@@ -78,7 +79,7 @@ def replayed(lines=WHOLE, moves=MOVES, given=INPUT, seconds=60.0, floor=None, **
 
 
 def page_of(run):
-    return tool("see").page_of(run).encode()
+    return page.page_of(run).encode()
 
 
 class ValueTests:
@@ -274,7 +275,8 @@ class ValueTests:
             board = data_of(answer.stdout.decode())["board"]
             assert (board["until"], board["why"]) == (0, ""), trace
             last = {}
-            for unit, slot, text in (it for rows in board["steps"] for it in rows):
+            values = iter(board["values"])
+            for _, unit, slot, text in zip(values, values, values, values):
                 last[unit, board["slots"][slot]] = board["texts"][text]
             units, numbers = self._document(given, library)
             held = [(number, *it) for number, unit in zip(numbers, units) for it in unit.get("slots", {}).items()]

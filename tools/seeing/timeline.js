@@ -1,7 +1,6 @@
 // The picture: columns are steps (the start, cycles, quiescence), and below each other stand the agenda, the sources,
 // the activations and the units. Only the columns in the window are drawn.
 
-const LABELS = run.file === undefined ? 172 : 232;
 const WIDTHS = [12, 16, 22, 30, 42, 56, 72];
 const MOST_ROWS = 60;
 
@@ -29,10 +28,21 @@ class Timeline {
     this.resized();
   }
 
+  // Shows another run, or the same one when it has gone on: in the same window, if that is a run's own part.
+  take(run) {
+    Object.assign(this, { run, selected: run.named(this.selected?.id) ?? null, hits: [], drawnFor: 0 });
+    this.resized();
+  }
+
   // ---- the window
 
+  // How much room the names of rows have.
+  get labels() {
+    return this.run.file === undefined ? 172 : 232;
+  }
+
   get count() {
-    return Math.max(1, Math.floor((this.breadth - LABELS - 12) / this.width));
+    return Math.max(1, Math.floor((this.breadth - this.labels - 12) / this.width));
   }
 
   get fits() {
@@ -46,7 +56,7 @@ class Timeline {
   resized() {
     this.breadth = this.pane.clientWidth;
     if (!this.isZoomed) {
-      const fitting = Math.floor((this.breadth - LABELS - 12) / this.run.steps.length);
+      const fitting = Math.floor((this.breadth - this.labels - 12) / this.run.steps.length);
       this.width = fitting >= WIDTHS[0] ? Math.min(fitting, WIDTHS.at(-1)) : 22;
     }
     this.moveTo(this.first);
@@ -90,7 +100,7 @@ class Timeline {
   }
 
   stepAtX(event) {
-    const x = event.clientX - this.content.getBoundingClientRect().left - LABELS;
+    const x = event.clientX - this.content.getBoundingClientRect().left - this.labels;
     const index = this.first + Math.floor(x / this.width);
     return x >= 0 && index < this.end ? this.run.steps[index] : null;
   }
@@ -112,7 +122,7 @@ class Timeline {
   }
 
   left(index) {
-    return LABELS + (index - this.first) * this.width;
+    return this.labels + (index - this.first) * this.width;
   }
 
   middle(index) {
@@ -172,12 +182,12 @@ class Timeline {
   label(y, high, href, ...texts) {
     const isSelected = href === `#${this.item}`;
     return svg("a", { href, tabindex: -1, class: isSelected ? "label selected" : "label" },
-      isSelected && svg("rect", { class: "chosen-row", x: LABELS, y: y - high / 2, width: this.breadth, height: high }),
-      svg("rect", { x: 6, y: y - 10, width: LABELS - 12, height: 20, rx: 4 }), ...texts);
+      isSelected && svg("rect", { class: "chosen-row", x: this.labels, y: y - high / 2, width: this.breadth, height: high }),
+      svg("rect", { x: 6, y: y - 10, width: this.labels - 12, height: 20, rx: 4 }), ...texts);
   }
 
   sideValue(y, text) {
-    return svg("text", { class: "side-value", x: LABELS - 10, y }, text);
+    return svg("text", { class: "side-value", x: this.labels - 10, y }, text);
   }
 
   drawAxis() {
@@ -230,7 +240,7 @@ class Timeline {
 
   // What each source has in each column: marks with how many there are, and whether activations of it wait.
   marksOfSources() {
-    const rows = this.run.sources.map(() => new Map());
+    const rows = this.waitsOfSources();
     const cell = (source, step) => {
       const row = rows[source.index];
       if (!row.has(step.index)) row.set(step.index, { marks: new Map(), waits: 0 });
@@ -255,12 +265,24 @@ class Timeline {
         }
       }
     }
+    return rows;
+  }
+
+  // For each source the columns in which activations of it wait, with how many: what begins and ends in each is counted.
+  waitsOfSources() {
+    const changes = this.run.sources.map(() => new Int32Array(this.end - this.first + 1));
     for (const act of this.here) {
       const from = Math.max(this.first, this.run.stepAt(this.run.triggerOf(act)).index);
       const to = act.ended ? Math.min(this.end, this.run.stepAt(act.ended).index) : this.end;
-      for (let at = from; at < to; at++) cell(act.source, this.run.steps[at]).waits += 1;
+      if (from >= to) continue;
+      changes[act.source.index][from - this.first] += 1;
+      changes[act.source.index][to - this.first] -= 1;
     }
-    return rows;
+    return changes.map((all) => {
+      let waits = 0;
+      const cells = Array.from(all, (it, at) => [this.first + at, { marks: new Map(), waits: (waits += it) }]);
+      return new Map(cells.filter(([, it]) => it.waits > 0));
+    });
   }
 
   drawSources() {
@@ -333,7 +355,7 @@ class Timeline {
     const middle = top + high / 2;
     const trigger = this.run.stepAt(this.run.triggerOf(act)).index;
     const end = act.ended ? this.run.stepAt(act.ended).index : this.run.steps.length;
-    const from = trigger < this.first ? LABELS : this.middle(trigger);
+    const from = trigger < this.first ? this.labels : this.middle(trigger);
     const to = end >= this.end ? this.left(this.end) : this.middle(end);
     const unit = this.run.unitOf.get(act.unit);
     const state = this.waiting.has(act) ? (this.selected.act === act.number ? "taken" : "passed") : "";
@@ -423,7 +445,7 @@ class Timeline {
     const middle = top + high / 2;
     const created = this.run.stepAt(unit.created).index;
     const deleted = unit.deleted ? this.run.stepAt(unit.deleted).index : this.run.steps.length;
-    const from = created < this.first ? LABELS : this.left(created) + 5;
+    const from = created < this.first ? this.labels : this.left(created) + 5;
     const to = deleted >= this.end ? this.left(this.end) : this.left(deleted + 1) - 5;
     const of = clipped(unit.of, 12);
     const room = 24 - String(unit.number).length;
@@ -480,7 +502,7 @@ class Timeline {
     const x = (index) => (index / steps.length) * wide;
     if (this.drawnFor !== wide) this.lengths = this.lengthsPath(wide, high);
     this.drawnFor = wide;
-    const marked = new Set(this.hits.map((line) => Math.round(x(this.run.stepAt(line).index + 0.5))));
+    const marked = new Set(this.hits.map((index) => Math.round(x(index + 0.5))));
     const span = Math.max(8, x(this.count));
     const left = Math.min(x(this.first), wide - span);
     this.overview.replaceChildren(

@@ -1,11 +1,13 @@
 """What tests of `tools/see` need: how it is called, and what its pages show."""
 
+import base64
 import json
 import os
 import re
 import shutil
 import subprocess
 import tempfile
+import zlib
 from importlib.machinery import SourceFileLoader
 from importlib.util import module_from_spec, spec_from_loader
 from pathlib import Path
@@ -83,4 +85,7 @@ def tool(name):
 
 
 def data_of(page):
-    return json.loads(re.search(r'<script type="application/json" id="run">(.*?)</script>', page, re.S)[1])
+    """What a page has of its run, with its lines as `text`."""
+    block = re.search(r'<script type="text/plain" id="run">(.*?)</script>', page, re.S)[1]
+    told, _, text = zlib.decompress(base64.b64decode(block)).decode().partition("\n")
+    return {**json.loads(told), "text": text}

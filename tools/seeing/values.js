@@ -76,7 +76,7 @@ function historyPart(unit) {
   return [
     tabled("Which values did its slots get?", later, ["In", "Slot", "Before", "At its end"], made,
       "None was set since it was created.",
-      run.stepById.has("gap") && remark("Of cycles that are not shown only the last values are told.")),
+      run.others.has("gap") && remark("Of cycles that are not shown only the last values are told.")),
     why && remark(why),
   ];
 }

@@ -1,5 +1,5 @@
 // Runs the script of a page where there is no browser, for tools/test_see: a page on standard input, addresses as
-// arguments, and for each of them what the page shows, as JSON on standard output. Nothing has a layout: all is there
+// arguments, or texts to find after `find:`, and for each of them what the page shows, as JSON on standard output. Nothing has a layout: all is there
 // that the script makes, at the breadth that a window of 1280 pixels leaves for the picture.
 "use strict";
 
@@ -9,7 +9,8 @@ const within = (tag) => new RegExp(`<script${tag}>(.*?)</script>`, "s").exec(pag
 
 class Element {
   constructor(tag) {
-    Object.assign(this, { tag, attributes: {}, children: [], found: {}, dataset: {}, value: "", scrollTop: 0 });
+    Object.assign(this, { tag, attributes: {}, children: [], found: {}, dataset: {}, heard: {} });
+    Object.assign(this, { value: "", scrollTop: 0 });
     Object.assign(this, { clientWidth: BREADTH, clientHeight: 420, style: { setProperty() {} } });
     this.classList = { add() {}, toggle() {} };
   }
@@ -51,14 +52,17 @@ class Element {
     return this.children.filter((it) => it.children).flatMap((it) => [...(it.tag === tag ? [it] : []), ...it.all(tag)]);
   }
 
-  addEventListener() {}
+  addEventListener(event, heard) {
+    this.heard[event] = heard;
+  }
+
   scrollIntoView() {}
 }
 
 let frames = [];
 const body = new Element("body");
 const data = new Element("script");
-data.append(within(' type="application/json" id="run"'));
+data.append(within(' type="text/plain" id="run"'));
 
 Map.groupBy ??= (items, keyOf) => {
   const groups = new Map();
@@ -98,22 +102,37 @@ function drawn(part) {
   }));
 }
 
-function shown(address) {
-  location.hash = `#${address}`;
-  globalThis.moved();
+// Goes to an address, or finds what stands after `find:`.
+function goTo(address) {
+  const input = body.querySelector("input");
+  input.value = address.startsWith("find:") ? address.slice(5) : "";
+  input.heard.input?.();
+  if (!input.value) location.hash = `#${address}`;
+  if (!input.value) globalThis.moved();
   settle();
+}
+
+function shown(address) {
+  goTo(address);
   const parts = ["axis", "agenda", "sources", "activations", "units"];
   const timeline = body.querySelector(".timeline");
   const below = timeline.querySelector(".activations").querySelector(".drawing").all("rect");
   return {
     details: body.querySelector(".details").textContent,
     lines: body.querySelector(".trace").querySelector(".rows").children.map((it) => it.textContent),
+    found: body.querySelector(".found").textContent,
     notices: body.querySelector(".notices").textContent,
     below: below.filter((it) => it.attributes.class === "below").map((it) => [it.attributes.x, it.attributes.width]),
     ...Object.fromEntries(parts.map((it) => [it, drawn(it)])),
   };
 }
 
-(0, eval)(within(""));
-settle();
-console.log(JSON.stringify(process.argv.slice(2).map(shown)));
+// The page is shown once its run is unpacked.
+async function tried() {
+  (0, eval)(within(""));
+  while (!body.dataset.state) await new Promise(setImmediate);
+  settle();
+  console.log(JSON.stringify(process.argv.slice(2).map(shown)));
+}
+
+tried();
