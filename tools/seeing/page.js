@@ -43,7 +43,8 @@ function showNotices() {
     "What was rated below 0 acted, so the run had a floor of its own, and this page tells of none. Give it too: ",
     html("code", {}, "tools/see --floor=N"));
   const why = run.board.isTold && whyNoValues();
-  at(".notices").replaceChildren(...[cut, long, floor, why && html("p", {}, why)].filter(Boolean));
+  const beside = run.other && partingTold();
+  at(".notices").replaceChildren(...[beside, cut, long, floor, why && html("p", {}, why)].filter(Boolean));
   at(".whole span").textContent = dropped > 0 ? "All that is shown" : "Whole run";
   at(".whole span").style.width = `${timeline.labels - 14}px`;
 }
@@ -70,6 +71,7 @@ const NAMEABLE = {
     panel: (source, name) => sourcePanel(source, name.split("-")[1]),
   },
   said: { of: saidOf, panel: saidPanel },
+  beside: { of: besideOf, panel: besidePanel },
 };
 
 const firstStep = () => run.steps.find((it) => it.cycle) ?? run.steps[0];
@@ -86,11 +88,11 @@ function show() {
   const step = run.named(id);
   const [, sort, name] = /^([a-z]+)-(.+)$/.exec(id) ?? [];
   const item = step ?? NAMEABLE[sort]?.of(name);
-  if (!item) return go(firstStep().id, true);
+  if (!item) return go(run.parting ? "beside-parting" : firstStep().id, true);
   const line = !step && sort === "line" ? Number(name) : 0;
   const life = !step && (sort === "act" || sort === "unit") ? run.lifeOf(item) : null;
   const now = timeline.selected ?? firstStep();
-  const selected = step ?? (line ? item : life ? stepOfLife(life, now) : now);
+  const selected = step ?? (line ? item : life ? stepOfLife(life, now) : (item.step ?? now));
   fill(step ? stepPanel(step) : NAMEABLE[sort].panel(item, name, selected));
   timeline.show(selected, id);
   lines.show(selected, line, life?.lines ?? new Set());
@@ -198,6 +200,7 @@ const KEYS = {
   "+": () => timeline.zoom(1),
   "-": () => timeline.zoom(-1),
   "/": () => input.select(),
+  b: () => run.other && turnTo(1 - runs.indexOf(run)),
 };
 
 const BUTTONS = {
@@ -250,6 +253,8 @@ async function start() {
   at(".theme").addEventListener("click", switchTheme);
   if (!globalThis.DecompressionStream || !Map.groupBy) return showTooOld();
   take(await unpackedAt("run"));
+  if (document.getElementById("beside")) besides(await unpackedAt("beside"));
+  if (run.other) showNotices();
   showKeys();
   if (run.totals.lines) {
     listen();

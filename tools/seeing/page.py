@@ -8,14 +8,16 @@ import zlib
 from itertools import chain
 from pathlib import Path
 
+from beside import Beside
 from foci import Held
 from given import Given, Written
 from run import ENDS_LIMIT, LINE_LIMIT, VALUE_COSTS, Activation, Run, Step, Unit
 
 SEEING = Path(__file__).resolve().parent
 SCRIPTS = ["unpack.js", "texts.js", "rows.js", "run.js", "board.js", "nodes.js", "axis.js", "timeline.js", "pieces.js"]
-SCRIPTS += ["given.js", "values.js", "said.js", "panels.js", "lines.js", "page.js"]
+SCRIPTS += ["given.js", "values.js", "said.js", "panels.js", "beside.js", "lines.js", "page.js"]
 NAME_LIMIT = 200
+BLOCK = '<script type="text/plain" id="{}">{}</script>'
 
 
 def exact(number):
@@ -153,9 +155,9 @@ def data_of(run: Run):
     }
 
 
-def packed(run: Run) -> bytes:
+def packed(run: Run, name: str = "", parting: int = 0) -> bytes:
     """The run as a page unpacks it (seeing/unpack.js): what it shows of it in one line of JSON, and then its lines."""
-    told = json.dumps(data_of(run), separators=(",", ":"))
+    told = json.dumps({**data_of(run), "name": clipped(name, NAME_LIMIT), "parting": parting}, separators=(",", ":"))
     return zlib.compress("\n".join([told, *(line.text for step in run.steps for line in step.lines)]).encode())
 
 
@@ -164,16 +166,27 @@ def digest(text):
     return f"'sha256-{base64.b64encode(hashlib.sha256(text.encode()).digest()).decode()}'"
 
 
-def page_of(run: Run):
+def blocks_of(run: Run, beside: Beside | None) -> dict[str, bytes]:
+    """The runs of a page, each packed, by the names of their blocks."""
+    if not beside:
+        return {"run": packed(run)}
+    return {
+        "run": packed(run, beside.name, beside.parting),
+        "beside": packed(beside.run, beside.other, beside.parting),
+    }
+
+
+def page_of(run: Run, beside: Beside | None = None):
     """The page. Nothing that a trace or an input spells stands in it as it is."""
     style = (SEEING / "page.css").read_text()
     scripts = "\n".join((SEEING / name).read_text() for name in SCRIPTS)
     script = f'"use strict";\n{{\n{scripts}}}\n'
+    blocks = blocks_of(run, beside).items()
     texts = {
         "policy": f"default-src 'none'; img-src data:; style-src {digest(style)}; script-src {digest(script)}",
         "cycles": f"{run.cycles:,} cycle{'s' * (run.cycles != 1)}",
         "style": style,
         "script": script,
-        "data": base64.b64encode(packed(run)).decode(),
+        "data": "\n".join(BLOCK.format(name, base64.b64encode(it).decode()) for name, it in blocks),
     }
     return re.sub(r"\{\{(\w+)\}\}", lambda it: texts[it[1]], (SEEING / "page.html").read_text())

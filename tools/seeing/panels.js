@@ -13,6 +13,7 @@ function stepPanel(step) {
     effects(step, lines),
     reactions(step, lines),
     ending(lines),
+    otherPart(step),
     boardPart(step),
     step.missing > 0 && remark(`${plural(step.missing, "line")} more of this step are not kept in the page.`),
   ];

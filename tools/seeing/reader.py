@@ -21,8 +21,8 @@ DIFFERS = "so the input, the floor or the library is not that of this trace"
 class NoTrace(Exception):
     """A line that can't be in a trace, or not there."""
 
-    def __init__(self, line: int, why: str):
-        super().__init__(f"line {line}: {why}")
+    def __init__(self, line: int | None, why: str):
+        super().__init__(why if line is None else f"line {line}: {why}")
         self.line = line
 
 

@@ -49,6 +49,7 @@ class Hits {
 class Run {
   constructor(data, text) {
     Object.assign(this, { finish: data.finish, cut: data.cut, totals: data.totals, causes: data.causes });
+    Object.assign(this, { name: data.name, parting: data.parting, other: null });
     this.texts = new Texts(text);
     this.sources = data.sources.map(([name, counts], index) => ({ name, index, counts }));
     this.steps = stepsOf(data.steps);

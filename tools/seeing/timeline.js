@@ -174,9 +174,16 @@ class Timeline {
     const gap = this.shown.find((step) => step.kind === "gap");
     return [
       gap && svg("rect", { class: "gap", x: this.left(gap.index), y: 0, width: this.width, height }),
+      this.partingPath(height),
       lines.map((step) => svg("path", { class: "grid", d: `M${this.left(step.index)} 0v${height}` })),
       svg("path", { class: "grid", d: `M${this.left(this.end)} 0v${height}` }),
     ];
+  }
+
+  // Before the step in which this run parts from the other one.
+  partingPath(height) {
+    const step = partingStep(this.run);
+    return this.isShown(step) && svg("path", { class: "parting", d: `M${this.left(step.index)} 0v${height}` });
   }
 
   label(y, high, href, ...texts) {
@@ -508,6 +515,7 @@ class Timeline {
     this.overview.replaceChildren(
       svg("path", { class: "length", d: this.lengths }),
       svg("path", { class: "hits", d: [...marked].map((at) => `M${at} 0v8`).join("") }),
+      svg("path", { class: "parting", d: partingStep(this.run) ? `M${x(partingStep(this.run).index)} 0v${high}` : "" }),
       svg("path", { class: "now", d: this.selected ? `M${x(this.selected.index + 0.5)} 0v${high}` : "" }),
       svg("rect", { class: "window", x: left + 0.75, y: 0.75, width: span - 1.5, height: high - 1.5, rx: 3 }));
   }

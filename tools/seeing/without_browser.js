@@ -5,7 +5,7 @@
 
 const BREADTH = 1280 - 480;
 const page = require("fs").readFileSync(0, "utf8");
-const within = (tag) => new RegExp(`<script${tag}>(.*?)</script>`, "s").exec(page)[1];
+const within = (tag) => new RegExp(`<script${tag}>(.*?)</script>`, "s").exec(page)?.[1];
 
 class Element {
   constructor(tag) {
@@ -61,8 +61,7 @@ class Element {
 
 let frames = [];
 const body = new Element("body");
-const data = new Element("script");
-data.append(within(' type="text/plain" id="run"'));
+const blocks = Object.fromEntries(["run", "beside"].map((id) => [id, within(` type="text/plain" id="${id}"`)]));
 
 Map.groupBy ??= (items, keyOf) => {
   const groups = new Map();
@@ -80,7 +79,7 @@ Object.assign(globalThis, {
   },
   document: {
     body,
-    getElementById: () => data,
+    getElementById: (id) => blocks[id] && { textContent: blocks[id] },
     querySelector: (selector) => body.querySelector(selector),
     createElement: (tag) => new Element(tag),
     createElementNS: (_, tag) => new Element(tag),
