@@ -78,14 +78,18 @@ class Given:
 
 def given_of(file: Path) -> Given:
     """What the input in a file gives."""
-    text = text_of(file)
+    return given_of_text(text_of(file), file.name)
+
+
+def given_of_text(text: str, name: str) -> Given:
+    """What an input gives, by its text and what it is called."""
     sections = sections_of(text)
     classes = read_document(sections, "%schema", classes_of)
     firsts = read_document(sections, "%units", lambda document: firsts_of(document, classes))
     texts = sources_of_text(sections["%sources"]) if "%sources" in sections else []
     bundled = sources_of_bundle(sections["%bundle"]) if "%bundle" in sections else []
     sources = {name: Written(name, classes_above(classes, of), pieces) for name, of, pieces in [*texts, *bundled]}
-    return Given(file.name, text, classes, firsts, sources)
+    return Given(name, text, classes, firsts, sources)
 
 
 def text_of(file: Path) -> str:

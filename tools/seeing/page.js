@@ -1,6 +1,9 @@
 // What is shown, by the page's address: `#cycle-3`, `#act-5`, `#unit-7`, `#source-crop`, `#source-crop-do`, `#line-12`,
 // `#said-all`, `#said-source-crop`.
 
+// Whether a server gives the run, which goes on (follow.js).
+const isLive = () => Boolean(document.getElementById("live"));
+
 const at = (selector) => document.querySelector(selector);
 const details = at(".details");
 const input = at("input");
@@ -23,14 +26,16 @@ function showTotals() {
   const said = saidLines().length > 0 && html("li", {}, link("said-all", "what was said"));
   at(".totals").replaceChildren(...[...Object.entries(counts).map(total), said].filter(Boolean));
   const state = at(".state");
-  state.textContent = run.finish ? `finish ${run.finish}` : lines ? "cut" : "empty";
-  state.title = finishMeaning();
-  state.className = `state ${run.finish || "cut"}`;
+  state.textContent = run.finish ? `finish ${run.finish}` : run.isOn ? "goes on" : lines ? "cut" : "empty";
+  state.title = run.isOn ? "More may come." : finishMeaning();
+  state.className = `state ${run.finish || (run.isOn ? "on" : "cut")}`;
 }
 
-function showNotices() {
+function showNotices(fault = "") {
   const { lines, cycles, dropped } = run.totals;
-  const isCut = !run.finish && lines > 0;
+  const isCut = !run.finish && lines > 0 && !run.isOn;
+  const wrong = run.fault && `What comes then is no more of this trace: ${run.fault}`;
+  const live = [fault, wrong].filter(Boolean).map((it) => html("p", {}, it));
   const cut = isCut && html("p", {},
     "This trace is cut: it has no ", html("code", {}, "finish"), " line, so memory ran out or the output failed. ",
     "What was written before is shown.", run.cut && " Its last line was not ended, and is left out of the picture.");
@@ -44,7 +49,7 @@ function showNotices() {
     html("code", {}, "tools/see --floor=N"));
   const why = run.board.isTold && whyNoValues();
   const beside = run.other && partingTold();
-  at(".notices").replaceChildren(...[beside, cut, long, floor, why && html("p", {}, why)].filter(Boolean));
+  at(".notices").replaceChildren(...[...live, beside, cut, long, floor, why && html("p", {}, why)].filter(Boolean));
   at(".whole span").textContent = dropped > 0 ? "All that is shown" : "Whole run";
   at(".whole span").style.width = `${timeline.labels - 14}px`;
 }
@@ -94,6 +99,7 @@ function show() {
   const now = timeline.selected ?? firstStep();
   const selected = step ?? (line ? item : life ? stepOfLife(life, now) : (item.step ?? now));
   fill(step ? stepPanel(step) : NAMEABLE[sort].panel(item, name, selected));
+  if (isLive()) selectedWhileLive(selected);
   timeline.show(selected, id);
   lines.show(selected, line, life?.lines ?? new Set());
 }
@@ -252,6 +258,7 @@ function listen() {
 async function start() {
   at(".theme").addEventListener("click", switchTheme);
   if (!globalThis.DecompressionStream || !Map.groupBy) return showTooOld();
+  if (isLive()) return followed();
   take(await unpackedAt("run"));
   if (document.getElementById("beside")) besides(await unpackedAt("beside"));
   if (run.other) showNotices();

@@ -155,9 +155,10 @@ def data_of(run: Run):
     }
 
 
-def packed(run: Run, name: str = "", parting: int = 0) -> bytes:
+def packed(run: Run, name: str = "", parting: int = 0, more: dict | None = None) -> bytes:
     """The run as a page unpacks it (seeing/unpack.js): what it shows of it in one line of JSON, and then its lines."""
-    told = json.dumps({**data_of(run), "name": clipped(name, NAME_LIMIT), "parting": parting}, separators=(",", ":"))
+    data = {**data_of(run), "name": clipped(name, NAME_LIMIT), "parting": parting, **(more or {})}
+    told = json.dumps(data, separators=(",", ":"))
     return zlib.compress("\n".join([told, *(line.text for step in run.steps for line in step.lines)]).encode())
 
 
@@ -176,17 +177,33 @@ def blocks_of(run: Run, beside: Beside | None) -> dict[str, bytes]:
     }
 
 
-def page_of(run: Run, beside: Beside | None = None):
-    """The page. Nothing that a trace or an input spells stands in it as it is."""
-    style = (SEEING / "page.css").read_text()
-    scripts = "\n".join((SEEING / name).read_text() for name in SCRIPTS)
-    script = f'"use strict";\n{{\n{scripts}}}\n'
-    blocks = blocks_of(run, beside).items()
+def page_of(run: Run, beside: Beside | None = None) -> str:
+    """The page of a run. Nothing that a trace or an input spells stands in it as it is."""
+    return made(f"A run of {run.cycles:,} cycle{'s' * (run.cycles != 1)}", blocks_of(run, beside))
+
+
+def live_page() -> str:
+    """The page that a server gives for a run that goes on: it asks the server for the run (seeing/follow.js)."""
+    return made("A run that goes on", {"live": b""}, "connect-src 'self'; ")
+
+
+def made(title: str, blocks: dict[str, bytes], more_policy: str = "") -> str:
+    names = ["follow.js", *SCRIPTS] if "live" in blocks else SCRIPTS
+    scripts = [(SEEING / name).read_text() for name in names]
+    return assembled("page", title, scripts, more_policy + "img-src data:; ", [
+        BLOCK.format(name, base64.b64encode(it).decode()) for name, it in blocks.items()
+    ])
+
+
+def assembled(name: str, title: str, scripts: list[str], policy: str, blocks: list[str]) -> str:
+    """A page with its style and its script, and by its policy no others."""
+    style = (SEEING / f"{name}.css").read_text()
+    script = '"use strict";\n{\n' + "\n".join(scripts) + "}\n"
     texts = {
-        "policy": f"default-src 'none'; img-src data:; style-src {digest(style)}; script-src {digest(script)}",
-        "cycles": f"{run.cycles:,} cycle{'s' * (run.cycles != 1)}",
+        "policy": f"default-src 'none'; {policy}style-src {digest(style)}; script-src {digest(script)}",
+        "title": title,
         "style": style,
         "script": script,
-        "data": "\n".join(BLOCK.format(name, base64.b64encode(it).decode()) for name, it in blocks),
+        "data": "\n".join(blocks),
     }
-    return re.sub(r"\{\{(\w+)\}\}", lambda it: texts[it[1]], (SEEING / "page.html").read_text())
+    return re.sub(r"\{\{(\w+)\}\}", lambda it: texts[it[1]], (SEEING / f"{name}.html").read_text())

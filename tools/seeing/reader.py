@@ -6,12 +6,12 @@ a replay it knows the values of slots.
 
 import re
 from collections.abc import Iterable
-from dataclasses import dataclass
+from dataclasses import dataclass, replace
 
 from foci import Foci, Held
 from forms import FORMS, told_refusal, told_unknown
 from given import First, Given
-from replay import CUT, FLOOR, Differs, Replay
+from replay import CUT, FLOOR, GOES_ON, Differs, Replay
 from run import LINE_LIMIT, Activation, Line, Run, Source, Step, Unit
 
 ANOTHER = "so the input is not that of this trace"
@@ -52,6 +52,14 @@ class Reader:
         self.events: list[tuple[int, int]] = []
         self.reactions: list[Reaction] = []
         self.latest: dict[str, Reaction] = {}
+
+    def take_bytes(self, raw: bytes) -> None:
+        """The next line, with its line feed."""
+        try:
+            text = raw[:-1].decode()
+        except UnicodeDecodeError:
+            raise NoTrace(self.run.lines + 1, "no UTF-8") from None
+        self.take(text)
 
     def take(self, text: str) -> None:
         """The next line, without its line feed."""
@@ -101,10 +109,23 @@ class Reader:
         self.events, self.reactions, self.latest = [], [], {}
 
     def close(self) -> None:
+        self.settle()
+        self.run.kept.add(self.step)
+
+    def settle(self) -> None:
+        """What is known of a step where its lines end."""
         self.settle_causes()
         self.step.waiting = len(self.run.waiting)
         self.run.longest = max(self.run.longest, self.step.waiting)
-        self.run.kept.add(self.step)
+
+    def so_far(self) -> Run:
+        """The run up to here, where more lines may come. Of the step in which it is, no values are told."""
+        self.settle()
+        step = replace(self.step, values={}) if self.replay.lines else self.step
+        until, why = self.replay.until, self.replay.why
+        if self.replay.lines:
+            until, why = step.first, GOES_ON
+        return replace(self.run, kept=self.run.kept.with_last(step), until=until, why=why)
 
     def end(self) -> Run:
         """There are no more lines. Of a step in which the trace is cut, what a replay holds at its end is left out."""
@@ -379,9 +400,5 @@ def read(
         if not raw.endswith(b"\n"):
             reader.run.cut = raw.decode(errors="replace")[:LINE_LIMIT]
             break
-        try:
-            text = raw[:-1].decode()
-        except UnicodeDecodeError:
-            raise NoTrace(reader.run.lines + 1, "no UTF-8") from None
-        reader.take(text)
+        reader.take_bytes(raw)
     return reader.end()

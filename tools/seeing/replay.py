@@ -32,6 +32,7 @@ TIME = f"the replay had taken {SECONDS} s"
 MEMORY = "memory ran out in the replay"
 SIZE = "more values change there than a page can have"
 CUT = "the trace is cut there"
+GOES_ON = "the run goes on there"
 
 
 class NoLibrary(Exception):

@@ -50,6 +50,7 @@ class Run {
   constructor(data, text) {
     Object.assign(this, { finish: data.finish, cut: data.cut, totals: data.totals, causes: data.causes });
     Object.assign(this, { name: data.name, parting: data.parting, other: null });
+    Object.assign(this, { isOn: data.isOn ?? false, fault: data.fault ?? "" });
     this.texts = new Texts(text);
     this.sources = data.sources.map(([name, counts], index) => ({ name, index, counts }));
     this.steps = stepsOf(data.steps);

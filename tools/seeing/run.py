@@ -1,7 +1,7 @@
 """What a trace says of a run: its steps, units and activations, of which a page can bear so many."""
 
 from collections import deque
-from dataclasses import dataclass, field
+from dataclasses import dataclass, field, replace
 
 from foci import Held
 from gap import Gap
@@ -122,6 +122,11 @@ class Kept:
         self.last_costs += step.size
         while self.last_costs > ENDS_LIMIT:
             self.drop(self.last.popleft())
+
+    def with_last(self, step: Step) -> "Kept":
+        """These steps and one more, which may change yet."""
+        ends = (self.first, [*self.last, step]) if self.last else ([*self.first, step], [])
+        return replace(self, first=ends[0], last=deque(ends[1]))
 
     def drop(self, step: Step) -> None:
         """Only the first step that is dropped is remembered, without its lines, how many cycles there were, and what
