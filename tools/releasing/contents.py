@@ -17,7 +17,7 @@ COPIED = {
     "crates/bb_cases": ["crates/bb_cases/data", "crates/bb_cases/stdout"],
     "examples": ["examples"],
     "editors": ["editors"],
-    "tools": ["tools/see", "tools/seeing", "tools/cases", "tools/casing"],
+    "tools": ["tools/see", "tools/seeing", "tools/workbench", "tools/cases", "tools/casing"],
     "include": ["crates/bb_c/include/bb.h"],
     "python": ["examples/c/host.py", "bindings/python/pyproject.toml", "bindings/python/README.md", "bindings/python/railcitron"],
     "python/examples": ["bindings/python/examples/press.py", "bindings/python/examples/scale.py"],
@@ -40,6 +40,7 @@ to install it.
     bin/bb < examples/hello.bb                                              runs an input
     ./test                                                                  runs the cases by these programs, in ten seconds
     bin/bb < examples/desk.bb | tools/see --input examples/desk.bb > run.html    makes a page of a run (Python 3.10)
+    tools/workbench examples/hello.bb                                       a page to write inputs in
     man -l share/man/man1/bb.1                                              the words of the program; man5 has the formats
     cc -Iinclude examples/c/host.c lib/libbb.a -o host                      a host in C
     python3 python/host.py lib/libbb.so < examples/hello.bb                 a host in Python
