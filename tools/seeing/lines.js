@@ -52,6 +52,16 @@ class Lines {
     this.draw();
   }
 
+  // Selects the next line that is kept, or the one before, or at first that of the step.
+  walk(by) {
+    const line = this.selected ? this.selected + by : this.step.first;
+    if (line < 1 || line > run.totals.lines) return;
+    if (run.textAt(line) !== null) return go(`line-${line}`, true);
+    const step = run.stepAt(line);
+    const other = by > 0 || !step.kept ? run.steps[step.index + by] : step;
+    if (other) go(`line-${by > 0 ? other.first : other.first + other.kept - 1}`, true);
+  }
+
   draw() {
     const from = this.box.scrollTop;
     this.shift = from - from * this.scale;
@@ -65,9 +75,11 @@ class Lines {
     const place = index - step.row;
     const text = place < step.kept ? run.texts.at(step.at + place) : null;
     const number = text === null ? 0 : step.first + place;
-    const made = html("div", { class: this.classes(step, number, text), "data-line": number || null },
+    const how = { class: this.classes(step, number, text), "data-line": number || null, role: "listitem" };
+    const made = html("div", how,
       html("span", { class: "line-number" }, number ? String(number) : ""),
       html("code", {}, text === null ? this.lost(step, place) : [told(text), setTold(number, text), namesIn(text)]));
+    for (const it of made.querySelectorAll("a")) it.setAttribute("tabindex", -1);
     if (text?.length > 50) made.title = text;
     made.style.top = `${index * ROW + 6 + this.shift}px`;
     return made;

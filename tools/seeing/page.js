@@ -209,6 +209,9 @@ const KEYS = {
   b: () => run.other && turnTo(1 - runs.indexOf(run)),
 };
 
+// In the lines of the trace, which line is selected.
+const UP_DOWN = { ArrowUp: -1, ArrowDown: 1 };
+
 const BUTTONS = {
   first: KEYS.Home,
   back: KEYS.ArrowLeft,
@@ -225,6 +228,11 @@ function pressed(event) {
   if (event.target === input) {
     if (event.key === "Enter") nextHit(event.shiftKey ? -1 : 1);
     if (event.key === "Escape") clearFind();
+  } else if (timeline.moveFocus(event)) {
+    event.preventDefault();
+  } else if (event.target === lines.box && UP_DOWN[event.key]) {
+    event.preventDefault();
+    lines.walk(UP_DOWN[event.key]);
   } else if (KEYS[event.key]) {
     event.preventDefault();
     KEYS[event.key]();

@@ -109,7 +109,7 @@ def told_by(given: Given, run: Run, units: list[Unit]):
 
 
 def board_of(run: Run, units: list[Unit]):
-    """What units held: the values at the end of each step, as a step, a unit, a slot and a value one behind another, and
+    """What units held: the values at the end of each step, as a step, a unit, a slot and a value one after another, and
     what changed in the steps that are not kept. That is left out where a page can't have it."""
     gap = run.kept.gap
     costs = sum(len(it) + VALUE_COSTS for it in gap.values.values()) + VALUE_COSTS * len(gap.moves)

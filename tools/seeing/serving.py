@@ -69,7 +69,7 @@ class Handler(BaseHTTPRequestHandler):
         self.write(answer)
 
     def is_allowed(self, token: str) -> bool:
-        """A page of another origin can't have the token; one that has turned a name to this address has another host."""
+        """A page of another origin has no token, and one that has turned a name to this address has another host."""
         hosts = self.headers.get_all("Host") or []
         origin = self.headers.get("Origin")
         is_own = origin is None or origin in [f"http://{it}" for it in self.server.hosts]

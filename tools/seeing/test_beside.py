@@ -6,8 +6,8 @@ from pathlib import Path
 from trying import data_of, see, shown, trace_of
 
 END = "end steps 3 found 0 budget 3"
-FRONT = ["create 1 note", "trigger 1 hail unit 1 rating 100", "cycle 1 act 1 hail unit 1 rating 100", "set 1.score", END]
-FRONT += ["trigger 2 hail unit 1 rating 5"]
+FRONT = ["create 1 note", "trigger 1 hail unit 1 rating 100", "cycle 1 act 1 hail unit 1 rating 100", "set 1.score"]
+FRONT += [END, "trigger 2 hail unit 1 rating 5"]
 ONE = ["trigger 3 hush unit 1 rating 7", "cycle 2 act 3 hush unit 1 rating 7", END, "finish limit"]
 OTHER = ["trigger 3 hush unit 1 rating 2", "cycle 2 act 2 hail unit 1 rating 5", END, "finish limit"]
 

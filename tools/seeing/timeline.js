@@ -1,6 +1,10 @@
 // The picture: columns are steps (the start, cycles, quiescence), and below each other stand the agenda, the sources,
-// the activations and the units. Only the columns in the window are drawn.
+// the activations and the units. Only the columns in the window are drawn. What is read out of it is the names of rows,
+// which lead to what is known of them: their marks are in the details of each step.
 
+const HIDDEN = { "aria-hidden": "true" };
+const rowsTold = (name) => ({ role: "group", "aria-label": `Rows of ${name}: up and down move, Enter selects` });
+const imageTold = (text) => ({ role: "img", "aria-label": text });
 const WIDTHS = [12, 16, 22, 30, 42, 56, 72];
 const MOST_ROWS = 60;
 
@@ -159,9 +163,31 @@ class Timeline {
     return from < this.lines[1] && (!to || to >= this.lines[0]);
   }
 
-  canvas(part, height, ...children) {
-    const area = { class: "drawing", width: this.breadth, height, viewBox: `0 0 ${this.breadth} ${height}` };
-    this.parts[part].querySelector(".drawing").replaceWith(svg("svg", area, this.grid(height), ...children));
+  // What is drawn of a part, with how it is read out. A row that has the keys keeps them.
+  canvas(part, told, height, ...children) {
+    const area = { class: "drawing", width: this.breadth, height, viewBox: `0 0 ${this.breadth} ${height}`, ...told };
+    const before = this.parts[part].querySelector(".drawing");
+    const focused = before.contains(document.activeElement) && document.activeElement.getAttribute("href");
+    const drawn = svg("svg", area, svg("g", HIDDEN, this.grid(height)), ...children);
+    before.replaceWith(drawn);
+    const labels = [...drawn.querySelectorAll("a.label")];
+    const entry = labels.find((it) => it.getAttribute("href") === (focused || `#${this.item}`)) ?? labels[0];
+    entry?.setAttribute("tabindex", 0);
+    if (focused) entry?.focus({ preventScroll: true });
+  }
+
+  // Of the rows of a part one has the keys: those for up and down give them to the next one.
+  moveFocus(event) {
+    const by = { ArrowUp: -1, ArrowDown: 1 }[event.key];
+    const label = event.target.closest?.("a.label");
+    if (!by || !label) return false;
+    const labels = [...label.closest("svg").querySelectorAll("a.label")];
+    const next = labels[labels.indexOf(label) + by];
+    if (!next) return true;
+    label.setAttribute("tabindex", -1);
+    next.setAttribute("tabindex", 0);
+    next.focus();
+    return true;
   }
 
   note(part, text) {
@@ -188,8 +214,9 @@ class Timeline {
 
   label(y, high, href, ...texts) {
     const isSelected = href === `#${this.item}`;
+    const box = { width: this.breadth, height: high };
     return svg("a", { href, tabindex: -1, class: isSelected ? "label selected" : "label" },
-      isSelected && svg("rect", { class: "chosen-row", x: this.labels, y: y - high / 2, width: this.breadth, height: high }),
+      isSelected && svg("rect", { ...box, class: "chosen-row", x: this.labels, y: y - high / 2 }),
       svg("rect", { x: 6, y: y - 10, width: this.labels - 12, height: 20, rx: 4 }), ...texts);
   }
 
@@ -211,7 +238,8 @@ class Timeline {
       const width = breadthOf(it.name) + PILL;
       return svg("rect", { class: "pill", x: it.at - width / 2, y: 3, width, height: 18, rx: 9 });
     };
-    this.canvas("axis", 24, svg("text", { class: "heading", x: 14, y: 16 }, "Cycle"),
+    const shown = `From ${this.run.nameOf(this.shown[0])} to ${this.run.nameOf(this.shown.at(-1))}`;
+    this.canvas("axis", imageTold(shown), 24, svg("text", { class: "heading", x: 14, y: 16 }, "Cycle"),
       columns.filter((it) => !it.cycle && !named.has(it)).map(dot),
       [...named].filter((it) => it !== chosen).map((it) => name(it, "axis-name")),
       chosen && [pill(chosen), name(chosen, "axis-name selected")]);
@@ -228,10 +256,12 @@ class Timeline {
   drawAgenda() {
     const height = 62;
     const most = Math.max(1, ...this.shown.map((it) => it.waiting));
+    const every = Math.ceil((breadthOf(String(most)) + 4) / this.width);
+    const phase = (this.isShown(this.selected) ? this.selected.index : this.first) % every;
     const bars = this.shown.filter((step) => step.kind !== "gap").map((step) => {
       const tall = (step.waiting / most) * (height - 22);
       const text = String(step.waiting);
-      const isText = breadthOf(text) + 4 <= this.width;
+      const isText = step.index % every === phase;
       const x = this.left(step.index) + 1;
       const sort = step === this.selected ? "bar selected" : "bar";
       return svg("g", {},
@@ -240,7 +270,9 @@ class Timeline {
         svg("rect", { class: sort, x, y: height - 4 - tall, width: this.width - 2, height: Math.max(tall, 1) }),
         isText && svg("text", { class: "value", x: x + this.width / 2 - 1, y: height - 8 - tall }, text));
     });
-    this.canvas("agenda", height, bars,
+    const { selected } = this;
+    const now = this.isShown(selected) ? `, ${selected.waiting} at the end of ${this.run.nameOf(selected)}` : "";
+    this.canvas("agenda", imageTold(`Length of the agenda: at most ${this.run.totals.longest}${now}`), height, bars,
       svg("text", { class: "name", x: 14, y: height - 6 }, "length"),
       this.sideValue(height - 6, `at most ${this.run.totals.longest.toLocaleString("en")}`));
   }
@@ -275,7 +307,7 @@ class Timeline {
     return rows;
   }
 
-  // For each source the columns in which activations of it wait, with how many: what begins and ends in each is counted.
+  // For each source the columns in which activations of it wait, with how many: those that begin and end are counted.
   waitsOfSources() {
     const changes = this.run.sources.map(() => new Int32Array(this.end - this.first + 1));
     for (const act of this.here) {
@@ -304,10 +336,10 @@ class Timeline {
           svg("text", { class: "name", x: 14, y: top + 20 }, clipped(source.name, 19)),
           this.sideValue(top + 20, source.counts.cycle.toLocaleString("en")),
           svg("title", {}, `${source.name}: acted ${source.counts.cycle} times`)),
-        drawn,
+        svg("g", HIDDEN, drawn),
       ];
     });
-    this.canvas("sources", Math.max(1, rows.length * high), rows);
+    this.canvas("sources", rowsTold("sources"), Math.max(1, rows.length * high), rows);
     this.note("sources", rows.length ? "" : "No source was triggered.");
   }
 
@@ -351,7 +383,7 @@ class Timeline {
     const acts = this.rowsOf(this.here, (it) => isSelected(it) || isBound(it));
     this.waiting = this.selected?.act ? new Set(this.run.waitingAt(this.selected.first)) : new Set();
     const rows = acts.map((act, row) => this.drawActivation(act, row * high, high));
-    this.canvas("activations", Math.max(1, rows.length * high), rows);
+    this.canvas("activations", rowsTold("activations"), Math.max(1, rows.length * high), rows);
     const hidden = this.here.length - acts.length;
     const none = this.run.totals.activations ? "None waits here." : "No activation was given.";
     const more = `${plural(hidden, "activation")} more not drawn here: click a cycle to see what waited.`;
@@ -376,15 +408,16 @@ class Timeline {
           svg("tspan", { class: "faint" }, `${act.number} `), clipped(act.source.name, 15 - String(act.number).length)),
         this.sideValue(middle + 4, act.unit ? clipped(`#${this.run.called(act.unit)}`, 12) : "quiescence"),
         svg("title", {}, title)),
-      svg("a", { href: `#act-${act.number}`, tabindex: -1, class: `life ${state}` }, svg("title", {}, title),
-        svg("rect", { x: from, y: middle - 8, width: Math.max(to - from, 2), height: 16, rx: 3 }),
-        this.stretchesBelow(act, trigger, end, from, to).map(([x, right]) =>
-          svg("rect", { class: "below", x, y: middle - 7.5, width: right - x, height: 15, rx: 3 },
-            svg("title", {}, `${title}, below the floor`)))),
-      this.basesOf(act, from, to, middle),
-      trigger >= this.first && mark("trigger", from, middle),
-      act.ended > 0 && end < this.end && this.endOf(act, to, middle, end),
-      !act.ended && mark("waits", to - 6, middle, `activation ${act.number} still waits`),
+      svg("g", HIDDEN,
+        svg("a", { href: `#act-${act.number}`, tabindex: -1, class: `life ${state}` }, svg("title", {}, title),
+          svg("rect", { x: from, y: middle - 8, width: Math.max(to - from, 2), height: 16, rx: 3 }),
+          this.stretchesBelow(act, trigger, end, from, to).map(([x, right]) =>
+            svg("rect", { class: "below", x, y: middle - 7.5, width: right - x, height: 15, rx: 3 },
+              svg("title", {}, `${title}, below the floor`)))),
+        this.basesOf(act, from, to, middle),
+        trigger >= this.first && mark("trigger", from, middle),
+        act.ended > 0 && end < this.end && this.endOf(act, to, middle, end),
+        !act.ended && mark("waits", to - 6, middle, `activation ${act.number} still waits`)),
     ];
   }
 
@@ -442,7 +475,7 @@ class Timeline {
     };
     const units = this.rowsOf(here, within);
     const rows = units.map((unit, row) => this.drawUnit(unit, row * high, high));
-    this.canvas("units", Math.max(1, rows.length * high), rows);
+    this.canvas("units", rowsTold("units"), Math.max(1, rows.length * high), rows);
     const hidden = here.length - units.length;
     const more = `${plural(hidden, "unit")} more not drawn here: find them by number or class.`;
     this.note("units", hidden ? more : units.length ? "" : "No unit is there.");
@@ -463,10 +496,11 @@ class Timeline {
           unit.name ? clipped(unit.name, room - of.length) : clipped(unit.of, room - 4)),
         unit.name && this.sideValue(middle + 4, of),
         svg("title", {}, `unit ${this.run.called(unit.number)}, a ${unit.of}`)),
-      svg("rect", { class: "unit-life", x: from, y: middle - 1.5, width: Math.max(to - from, 2), height: 3, rx: 1.5 }),
-      created >= this.first && mark("create", from, middle, `unit ${unit.number} created`),
-      deleted < this.end && mark("delete", to, middle, `unit ${unit.number} deleted`),
-      this.changesOf(unit).map(([step, shapes]) => this.drawChanges(unit, step, shapes, middle)),
+      svg("g", HIDDEN,
+        svg("rect", { class: "unit-life", x: from, y: middle - 1.5, width: Math.max(to - from, 2), height: 3, rx: 1.5 }),
+        created >= this.first && mark("create", from, middle, `unit ${unit.number} created`),
+        deleted < this.end && mark("delete", to, middle, `unit ${unit.number} deleted`),
+        this.changesOf(unit).map(([step, shapes]) => this.drawChanges(unit, step, shapes, middle))),
     ];
   }
 

@@ -39,7 +39,8 @@ function holdingsOf(unit, step) {
     ...[...moves].map(([slot, partners]) => partnersTold(slot, partners, step)),
     spaces.length > 0 && html("span", { class: "slot" }, `in ${spaces.join(", ")}`),
   ].filter(Boolean);
-  return html("div", { class: "holdings" }, all.length ? all.map((it, at) => [at > 0 && " · ", it]) : faint("nothing"));
+  const none = step.first < run.board.until && run.board.isTold ? "nothing" : "?";
+  return html("div", { class: "holdings" }, all.length ? all.map((it, at) => [at > 0 && " · ", it]) : faint(none));
 }
 
 function boardPart(step) {

@@ -1,6 +1,7 @@
 // Runs the script of a page where there is no browser, for tools/test_see: a page on standard input, addresses as
-// arguments, or texts to find after `find:`, and for each of them what the page shows, as JSON on standard output. Nothing has a layout: all is there
-// that the script makes, at the breadth that a window of 1280 pixels leaves for the picture.
+// arguments, or texts to find after `find:`, and for each of them what the page shows, as JSON on standard output.
+// Nothing has a layout: all is there that the script makes, at the breadth that a window of 1280 pixels leaves for the
+// picture.
 "use strict";
 
 const BREADTH = 1280 - 480;
@@ -29,6 +30,18 @@ class Element {
 
   setAttribute(name, value) {
     this.attributes[name] = value;
+  }
+
+  getAttribute(name) {
+    return this.attributes[name] ?? null;
+  }
+
+  contains() {
+    return false;
+  }
+
+  querySelectorAll() {
+    return [];
   }
 
   append(...children) {

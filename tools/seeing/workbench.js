@@ -2,9 +2,13 @@
 
 const PAUSE = 300;
 const NEW = `%schema
-{"classes": [{"name": "box", "slots": [{"name": "weight", "kind": "int"}]}]}
+{"classes": [
+  {"name": "box", "slots": [{"name": "weight", "kind": "int"}]}
+]}
 %units
-{"units": [{"name": "crate", "class": "box", "slots": {"weight": 3}}]}
+{"units": [
+  {"name": "crate", "class": "box", "slots": {"weight": 3}}
+]}
 %sources
 source hail on box {
   when create box;
@@ -111,8 +115,9 @@ function faultItem({ kind, text, line, column, number, notes }) {
   const place = line ? `line ${line}${column ? `, column ${column}` : ""}` : "";
   const button = html("button", { type: "button" }, place);
   button.addEventListener("click", () => editor.goTo(line, column));
-  return html("li", { class: kind }, place && button, html("span", { class: "kind" }, number ? `${kind} ${number}` : kind),
-    text, notes.length > 0 && html("pre", {}, notes.join("\n")));
+  const name = html("span", { class: "kind" }, number ? `${kind} ${number}` : kind);
+  return html("li", { class: kind }, place && button, name, text,
+    notes.length > 0 && html("pre", {}, notes.join("\n")));
 }
 
 // Goes to the next message that has a place, or to the one before.

@@ -16,13 +16,15 @@ from following import Following
 from forms import is_refusal
 from given import NoInput, given_of_text
 from page import live_page
-from replay import NO_LIBRARY, Replay, opener
+from replay import Replay, opener
 from serving import HTML, NOT_THERE, Answer, news_of
+
+NO_LIBRARY = "a trace does not record it. Give the library that runs it again: tools/workbench FILE --library libbb.so"
 
 # The bounds of a check and of a run: seconds, bytes of a trace.
 CHECK_SECONDS = 5
 MOST_SECONDS = 600
-TRACE_LIMIT = 256 << 20
+TRACE_LIMIT = 128 << 20
 
 
 def killed(process: subprocess.Popen) -> None:
@@ -34,13 +36,13 @@ def killed(process: subprocess.Popen) -> None:
     process.wait()
 
 
-def begun(program: list[str], given: bytes, told, *words: str) -> subprocess.Popen:
+def begun(program: list[str], given: bytes, written, told, *words: str) -> subprocess.Popen:
     """A program that reads an input from a file, which is gone at once, and tells what is wrong in another."""
     with tempfile.TemporaryFile() as file:
         file.write(given)
         file.seek(0)
         return subprocess.Popen(
-            [*program, *words], stdin=file, stdout=subprocess.PIPE, stderr=told, start_new_session=True
+            [*program, *words], stdin=file, stdout=written, stderr=told, start_new_session=True
         )
 
 
@@ -58,12 +60,13 @@ class Check:
             with self.lock:
                 if self.now and self.now.poll() is None:
                     killed(self.now)
-                self.now = process = begun(self.program, given, told, "check")
+                self.now = process = begun(self.program, given, subprocess.PIPE, told, "check")
             try:
                 costs, _ = process.communicate(timeout=CHECK_SECONDS)
             except subprocess.TimeoutExpired:
                 killed(process)
-                return {"state": "slow", "faults": [], "costs": "", "told": f"The check took more than {CHECK_SECONDS} s."}
+                why = f"The check took more than {CHECK_SECONDS} s."
+                return {"state": "slow", "faults": [], "costs": "", "told": why}
             told.seek(0)
             text = told.read().decode(errors="replace")
         faults = [asdict(it) for it in faults_of(text)]
@@ -73,41 +76,49 @@ class Check:
 
 
 class Job:
-    """A run, which is killed beyond its bounds. Its trace is followed while it comes."""
+    """A run, which is killed beyond its bounds. It writes its trace to a file, so it waits for no reader."""
 
     def __init__(self, program: list[str], given: bytes, cycles: int, seconds: float, library=None):
         self.seconds = seconds
         self.refused = ""
         self.why = ""
-        self.error = tempfile.TemporaryFile()
+        self.error, self.trace = tempfile.TemporaryFile(), tempfile.TemporaryFile()
         self.following = following(given, library)
         self.done = Event()
+        self.took = 0.0
         self.began = time.monotonic()
-        self.process = begun(program, given, self.error, "--limit", str(cycles))
-        Thread(target=self.read, daemon=True).start()
+        self.process = begun(program, given, self.trace, self.error, "--limit", str(cycles))
         Thread(target=self.watch, daemon=True).start()
-
-    def read(self) -> None:
-        """Takes the trace as it comes, as far as there is room for it."""
-        size = 0
-        with self.process.stdout as trace:
-            while data := os.read(trace.fileno(), 1 << 18):
-                if not size and is_refusal(data.partition(b"\n")[0]):
-                    self.refused = data.decode(errors="replace").strip()
-                    break
-                size += len(data)
-                if size > TRACE_LIMIT:
-                    self.stop(f"Its trace had more than {TRACE_LIMIT >> 20} MiB.")
-                    break
-                self.following.feed(data)
-        self.process.wait()
-        self.took = time.monotonic() - self.began
-        self.following.end()
-        self.done.set()
+        Thread(target=self.read, daemon=True).start()
 
     def watch(self) -> None:
-        if not self.done.wait(self.seconds):
-            self.stop(f"It ran longer than {self.seconds:g} s.")
+        """Waits for its end, or brings that about."""
+        while self.process.poll() is None:
+            if time.monotonic() - self.began > self.seconds:
+                self.stop(f"It ran longer than {self.seconds:g} s.")
+            elif os.fstat(self.trace.fileno()).st_size > TRACE_LIMIT:
+                self.stop(f"Its trace had more than {TRACE_LIMIT >> 20} MiB.")
+            else:
+                time.sleep(0.02)
+        self.took = time.monotonic() - self.began
+        front = os.pread(self.trace.fileno(), 1 << 12, 0).partition(b"\n")[0]
+        self.refused = front.decode(errors="replace") if is_refusal(front) else ""
+        self.done.set()
+
+    def read(self) -> None:
+        """Takes the trace as it comes, at least its front, unless the input is refused."""
+        place = 0
+        while True:
+            is_over = self.done.wait(0.0 if place else 0.05)
+            data = os.pread(self.trace.fileno(), 1 << 18, place)
+            if self.refused or is_over and not data or place > TRACE_LIMIT:
+                break
+            if data and (place or is_over or not data.startswith(b"refused ")):
+                place += len(data)
+                self.following.feed(data)
+            elif not data:
+                time.sleep(0.03)
+        self.following.end()
 
     def stop(self, why: str) -> None:
         if not self.done.is_set():
@@ -116,11 +127,11 @@ class Job:
 
     def told(self) -> dict:
         """How it stands."""
-        status = self.process.returncode if self.done.is_set() else None
-        self.error.seek(0)
-        text = self.error.read(1 << 16).decode(errors="replace") if self.done.is_set() else ""
-        took = self.took if self.done.is_set() else time.monotonic() - self.began
+        is_done = self.done.is_set()
+        text = os.pread(self.error.fileno(), 1 << 16, 0).decode(errors="replace") if is_done else ""
+        took = self.took if is_done else time.monotonic() - self.began
         faults = [asdict(it) for it in faults_of(text)]
+        status = self.process.returncode if is_done else None
         return {"status": status, "why": self.why, "refused": self.refused, "faults": faults, "took": round(took, 1)}
 
 
@@ -190,7 +201,6 @@ class Workplace:
         with self.lock:
             if self.job:
                 self.job.stop("Another one was begun.")
-                self.job.error.close()
             self.job = Job(self.program, given, cycles, seconds, self.library)
             self.count += 1
             return {"page": f"runs/{self.count}/"}
