@@ -21,14 +21,14 @@ COPIED = {
     "include": ["crates/bb_c/include/bb.h"],
     "python": ["examples/c/host.py", "bindings/python/pyproject.toml", "bindings/python/README.md", "bindings/python/railcitron"],
     "python/examples": ["bindings/python/examples/press.py", "bindings/python/examples/scale.py"],
-    "share/man/man1": ["tools/releasing/man/bbasm.1"],
+    "share/man/man1": ["tools/releasing/man/bbasm.1", "tools/releasing/man/railcitron-server.1"],
     "share/man/man5": ["tools/releasing/man/railcitron-input.5", "tools/releasing/man/railcitron-trace.5"],
     "share/bash-completion/completions": ["tools/releasing/completion/bb", "tools/releasing/completion/bbasm"],
     "share/zsh/site-functions": ["tools/releasing/completion/_bb"],
 }
 COPIED["share/man/man5"] += ["tools/releasing/man/railcitron-moves.5", "tools/releasing/man/railcitron-code.5"]
 # Checks and builds need a checkout.
-LEFT_OUT = shutil.ignore_patterns("__pycache__", "*.pyc", "check", "try")
+LEFT_OUT = shutil.ignore_patterns("__pycache__", "*.pyc", "check", "try", "tests")
 
 START = f"""\
 # Railcitron, a release
@@ -51,8 +51,9 @@ to install it.
 
 VERSION has the program's version, the commit, the kit in whose logic its proofs hold, and the digest of the sources. In a
 checkout with the same sources `./bb`, `./bbasm` and `./test` use the programs of this folder, if it is release/ at the top
-or RAILCITRON_RELEASE names it. editors/ has files for vim and for editors that read TextMate grammars, share/ the completion
-for bash and zsh; examples/many/one runs one of many inputs (docs/users/MANY_RUNS.md), with `BB=bin/bb`.
+or RAILCITRON_RELEASE names it. editors/ has files for vim and for editors that read TextMate grammars, and a language server
+(docs/users/EDITORS.md); share/ the completion for bash and zsh; examples/many/one runs one of many inputs
+(docs/users/MANY_RUNS.md), with `BB=bin/bb`.
 
 {RIGHTS}
 """

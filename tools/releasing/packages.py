@@ -59,6 +59,7 @@ PLACES = {
 # Links, so that bb has its other name, and the tests find programs and examples where they look.
 LINKS = {
     "usr/bin/railcitron": "bb",
+    "usr/bin/railcitron-server": "../share/railcitron/editors/server/railcitron-server",
     "usr/share/man/man1/railcitron.1": "bb.1",
     "usr/share/bash-completion/completions/railcitron": "bb",
     "usr/share/railcitron/examples": "../doc/railcitron/examples",

@@ -4,6 +4,7 @@ The archive is unpacked and the Debian package too, each into an empty root (roo
 root, as where the system allows none, they run in an empty environment, and it says so.
 """
 
+import json
 import os
 import re
 import shutil
@@ -207,7 +208,17 @@ def try_pip(folder, wheel):
             raise Failed("pip installs the wheel without its library")
 
 
-# ---- pages
+# ---- editors and pages
+
+
+def try_server(folder):
+    """The language server says what it does, and ends."""
+    begin = {"jsonrpc": "2.0", "id": 1, "method": "initialize", "params": {"capabilities": {}}}
+    messages = [json.dumps(it) for it in (begin, {"jsonrpc": "2.0", "id": 2, "method": "shutdown"}, {"jsonrpc": "2.0", "method": "exit"})]
+    given = "".join(f"Content-Length: {len(it)}\r\n\r\n{it}" for it in messages)
+    told = run(folder / "editors/server/railcitron-server", input=given, text=True, stdout=subprocess.PIPE).stdout
+    if '"hoverProvider":true' not in told:
+        raise Failed(f"the language server says {told!r}")
 
 
 def try_pages(folder):
@@ -233,5 +244,6 @@ def try_all(folder):
         try_debian(folder, room)
         try_hosts(folder, room)
         try_exports(folder)
+        try_server(folder)
         try_pages(folder)
         try_sums(folder)
