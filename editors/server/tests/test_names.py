@@ -212,6 +212,55 @@ STAYS = [
 ]
 
 
+# Slots that are named like words, a search in the pattern of another, two entries of one name, and texts left and right.
+ODD = """\
+%schema
+{"classes": [{"name": "mark", "slots": [{"name": "in", "kind": "int"}, {"name": "x", "kind": "int"}, {"name": "leave", "kind": "int"}],
+              "links": [{"name": "on", "to": "mark", "many": false, "inverse": "as"},
+                        {"name": "as", "to": "mark", "many": false, "inverse": "on"}]},
+             {"name": "mark"}],
+ "spaces": [{"name": "near", "classes": ["mark"], "dims": [{"name": "x", "kind": "ordered"}]},
+            {"name": "far", "classes": ["mark"], "dims": [{"name": "in", "kind": "ordered"}]}]}
+%sources
+source odd on mark {
+  when update mark.in;
+  rate 1;
+  do {
+    with one = it as mark {
+      with two = one.on {
+        link one.on two;
+        unlink two.as one;
+        set one.leave = two.in;
+        say one.leave, two;
+        let sum = (one.x + two.x) * 2;
+        let same = one.on = two;
+        let span = [one.x, 7];
+        let least = min(sum, 3);
+        let other = one;
+        for it2 in find mark in near where and(x within [0, size(find mark in far where in2 within [1, 2])], x less [5, 5]) { say sum; }
+        say span, least, same, other;
+      }
+      for f in find focus in near { if "odd" = f.source { say f; } }
+    }
+  }
+}
+"""
+ODD_HOVERS = [
+    ("link one.on t^wo", "two\nclass mark"),
+    ("two.as o^ne", "one\nclass mark"),
+    ("say one.leave, t^wo", "two\nclass mark"),
+    ("say one.le^ave, two", f"slot leave of class mark\nkind: int\n{BOUNDS}\ndefault: 0"),
+    ("let s^um", "sum\na number"),
+    ("let sa^me", "same\na truth value"),
+    ("let sp^an", "span\nan interval"),
+    ("let le^ast", "least\na number"),
+    ("let ot^her", "other\nclass mark"),
+    ("and(^x within", "dimension x of space near\nkind: ordered\nreads\n  mark.x: int"),
+    (", ^x less [5", "dimension x of space near\nkind: ordered\nreads\n  mark.x: int"),
+    ('"o^dd" = f', "source odd on mark\nparts: do"),
+]
+
+
 def same(found, wanted, what=""):
     assert found == wanted, f"{what}: {found!r}, and not {wanted!r}"
 
@@ -230,6 +279,17 @@ class Names:
                 else:
                     same(found["contents"], {"kind": "plaintext", "value": wanted}, mark)
                     same(found["range"], span(GARDEN, word), mark)
+
+    def hover_of_names_in_odd_places(self):
+        with of(ODD) as client:
+            for mark, wanted in ODD_HOVERS:
+                found = client.at("hover", place(ODD, mark))
+                same(found and found["contents"]["value"], wanted, mark)
+            first = span(ODD, '"classes": [{"name": "<<mark>>"')
+            where = place(ODD, "source odd on m^ark")
+            same(client.at("definition", where), {"uri": URI, "range": first})
+            others = [it["range"] for it in client.at("references", where, context={"includeDeclaration": False})]
+            same((first in others, span(ODD, '{"name": "<<mark>>"}],') in others), (False, True))
 
     def definition(self):
         with of(GARDEN) as client:

@@ -6,6 +6,9 @@ Each request is answered within a second, or refused as a rename may be; nothing
 import random
 
 from client import ROOT, URI, Error, of, position_at
+from input import Input
+from outline import outline_of
+from text import Text
 
 EXAMPLES = sorted((ROOT / "examples").rglob("*.bb"))
 METHODS = ("hover", "completion", "definition", "prepareRename")
@@ -68,6 +71,19 @@ class Robust:
                         version += 1
                         client.change(version, {"text": changed})
                         ask_all(client, changed, min(at, len(changed)))
+
+    def the_outline_of_a_cut_is_in_order(self):
+        """The name of each entry is within it, as clients want it, and its text is the name."""
+        chance = random.Random(97)
+        for example in EXAMPLES:
+            text = example.read_text()
+            for cut in [len(text), *(chance.randrange(len(text) + 1) for _ in range(6))]:
+                waiting = outline_of(Input(Text(text[:cut])))
+                while waiting:
+                    it = waiting.pop()
+                    assert it.span[0] <= it.word[0] <= it.word[1] <= it.span[1] <= cut, (example.name, cut, it)
+                    assert it.name in (text[slice(*it.word)], "source"), it
+                    waiting += it.inner
 
     def texts_that_are_no_input(self):
         with of("") as client:
