@@ -78,7 +78,8 @@ impl<'a> Operators<'a> {
             self.view.move_on();
             return Ok(());
         }
-        self.view.pass(self.view.at.read_as(reading.word))
+        let at = self.view.at;
+        self.view.pass(at.read_as(reading.word))
     }
 
     // Returns how a token is read, if it begins an operator of another language.
@@ -97,7 +98,7 @@ impl<'a> Operators<'a> {
         if second == "=" && is_sign(at) && self.view.may_come(self.alloc, "=")? {
             return Ok(double("="));
         }
-        let before = self.view.before();
+        let before = self.view.before;
         if at.is("=") && at.is_joined && (before.is("=") || is_sign(before)) {
             return Ok(single(""));
         }

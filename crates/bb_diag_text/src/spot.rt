@@ -45,7 +45,10 @@ pub(crate) struct View<'a> {
     walk: Walk<'a>,
     // Whether the grammar allows all tokens so far.
     is_known: bool,
-    before: [Token<'a>; 3],
+    // The token before, and the two before that one, the nearest first.
+    pub(crate) before: Token<'a>,
+    first: Token<'a>,
+    third: Token<'a>,
     pub(crate) at: Token<'a>,
     pub(crate) tokens: Tokens<'a>,
 }
@@ -57,16 +60,12 @@ impl<'a> View<'a> {
         Ok(View {
             walk: Walk::begin(alloc)?,
             is_known: true,
-            before: [Token::none(); 3],
+            before: Token::none(),
+            first: Token::none(),
+            third: Token::none(),
             at: tokens.take(),
             tokens,
         })
-    }
-
-    /// Returns the token before.
-    pub(crate) fn before(&self) -> Token<'a> {
-        let [before, _, _] = self.before;
-        before
     }
 
     /// Passes the token, which is read as `read`.
@@ -78,8 +77,9 @@ impl<'a> View<'a> {
 
     /// Passes the token as if it were a blank.
     pub(crate) fn move_on(&mut self) {
-        let [before, first, _] = self.before;
-        self.before = [self.at, before, first];
+        self.third = self.first;
+        self.first = self.before;
+        self.before = self.at;
         self.at = self.tokens.take();
     }
 
@@ -104,13 +104,12 @@ impl<'a> View<'a> {
 
     /// Returns what is known at the token.
     pub(crate) fn spot(&self, alloc: Global) -> Result<Spot<'a>, Memory> {
-        let [before, first, third] = self.before;
         let mut tokens = self.tokens;
         Ok(Spot {
             at: self.at,
-            before,
-            first,
-            third,
+            before: self.before,
+            first: self.first,
+            third: self.third,
             behind: tokens.take(),
             last: tokens.take(),
             due: self.due(alloc)?,
@@ -131,10 +130,11 @@ pub fn look<'a>(
 ) -> Result<Spot<'a>, Memory> {
     let mut view = View::of(alloc, piece)?;
     for _turn in 0..piece.text.len() {
-        if view.at.is_from(line, column) {
+        let at = view.at;
+        if at.is_from(line, column) {
             break;
         }
-        view.pass(view.at)?;
+        view.pass(at)?;
     }
     view.spot(alloc)
 }

@@ -76,11 +76,10 @@ pub fn advice(alloc: Global, input: Accepted<'_>) -> Result<String, Memory> {
         let crowds = Crowds::of(alloc, schema, sources, first)?;
         let costed = Costed {
             schema,
-            texts: &texts,
             sources,
             crowds: &crowds,
         };
-        write_costs(alloc, &mut text, costed)?;
+        write_costs(alloc, &mut text, &texts, costed)?;
     }
     Ok(text)
 }

@@ -6,7 +6,7 @@ use crate::costs::Costed;
 use crate::existence::asks_for_one;
 use crate::op_sites::OpSites;
 use crate::site::{Site, Subject};
-use crate::source_sites::SourceSites;
+use crate::source_sites::{SourceSites, Texts};
 use bb_basis::Memory;
 use bb_code::{ClassId, Code, Node, Op, Place, Query};
 use bb_rules::{Reaction, Source};
@@ -145,10 +145,11 @@ fn write_notes_on(
 pub(crate) fn write_cost_notes(
     alloc: Global,
     text: &mut String,
+    texts: &Texts<'_>,
     costed: Costed<'_>,
 ) -> Result<(), Memory> {
     for (index, source) in costed.sources.iter().enumerate() {
-        let sites = costed.texts.sites(alloc, index, source)?;
+        let sites = texts.sites(alloc, index, source)?;
         write_notes_on(alloc, text, costed, source, &sites)?;
     }
     Ok(())

@@ -87,14 +87,18 @@ fn write_lines(text: &mut String, widths: &Widths, source: &Source) -> Result<()
 #[derive(Clone, Copy)]
 pub struct Costed<'a> {
     pub schema: &'a Schema,
-    pub texts: &'a Texts<'a>,
     pub sources: &'a [Source],
     pub crowds: &'a Crowds,
 }
 
 /// Appends a table of what the parts of sources cost, with heads and a line for each part of each source, and then the
 /// costs that depend on what exists.
-pub fn write_costs(alloc: Global, text: &mut String, costed: Costed<'_>) -> Result<(), Memory> {
+pub fn write_costs(
+    alloc: Global,
+    text: &mut String,
+    texts: &Texts<'_>,
+    costed: Costed<'_>,
+) -> Result<(), Memory> {
     let sources = costed.sources;
     let mut widths = Widths::of("source", &HEADS);
     for source in sources {
@@ -104,5 +108,5 @@ pub fn write_costs(alloc: Global, text: &mut String, costed: Costed<'_>) -> Resu
     for source in sources {
         write_lines(text, &widths, source)?;
     }
-    write_cost_notes(alloc, text, costed)
+    write_cost_notes(alloc, text, texts, costed)
 }

@@ -51,6 +51,20 @@ impl Crowds {
     }
 }
 
+// Adds one to the number at an index, if there is one.
+fn add_one(counts: &mut Vec<usize>, index: usize) {
+    if index < counts.len() {
+        counts[index] = counts[index].saturating_add(1);
+    }
+}
+
+// Marks an index, if there is one.
+fn mark(marks: &mut Vec<bool>, index: usize) {
+    if index < marks.len() {
+        marks[index] = true;
+    }
+}
+
 // What initial units and acts do.
 #[derive(Drop)]
 struct Seen {
@@ -85,25 +99,19 @@ impl Seen {
         let Note::Event(Event::Change { class, change, .. }) = note else {
             return;
         };
-        let count = match change.kind() {
-            ChangeKind::Create => self.counts.get_mut(*class as usize),
-            ChangeKind::Enter(space) => self.entries.get_mut(space as usize),
-            _ => None,
-        };
-        if let Some(count) = count {
-            *count = count.saturating_add(1);
+        match change.kind() {
+            ChangeKind::Create => add_one(&mut self.counts, *class as usize),
+            ChangeKind::Enter(space) => add_one(&mut self.entries, space as usize),
+            _ => {}
         }
     }
 
     fn add_ops(&mut self, ops: &[Op]) {
         for op in ops {
-            let mark = match *op {
-                Op::New(class) => self.are_created.get_mut(class as usize),
-                Op::Enter(space) => self.are_entered.get_mut(space as usize),
-                _ => None,
-            };
-            if let Some(mark) = mark {
-                *mark = true;
+            match *op {
+                Op::New(class) => mark(&mut self.are_created, class as usize),
+                Op::Enter(space) => mark(&mut self.are_entered, space as usize),
+                _ => {}
             }
         }
     }
