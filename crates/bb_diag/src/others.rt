@@ -59,7 +59,7 @@ pub(crate) fn others_than(context: Context<'_>, first: Place) -> Result<String, 
 impl Others<'_> {
     // Adds the faults of a piece: its first, and, if it can't be read, the operators of other languages after that one.
     fn add_piece(&mut self, piece: Piece<'_>) -> Result<(), Memory> {
-        match judged(self.context, piece)? {
+        match judge(self.context, piece)? {
             Judged::Right => Ok(()),
             Judged::Misfit { name, reason } => self.add_reason(name.as_str(), &reason),
             Judged::Refused(fault) => {
@@ -172,11 +172,9 @@ fn is_apart(token: Token<'_>, first: Place) -> bool {
 }
 
 // Judges a piece alone.
-fn judged(context: Context<'_>, piece: Piece<'_>) -> Result<Judged, Memory> {
+fn judge(context: Context<'_>, piece: Piece<'_>) -> Result<Judged, Memory> {
     match (parse(context.alloc, piece.own()), context.schema) {
-        (Ok(trees), Some(schema)) => {
-            judged_under(context.alloc, schema, piece, trees.as_slice())
-        }
+        (Ok(trees), Some(schema)) => { judge_under(context.alloc, schema, piece, trees.as_slice()) }
         (Ok(_), None) => Ok(Judged::Right),
         (Err(LangFault::Memory), _) => Err(AllocError),
         (Err(fault), _) => Ok(Judged::Refused(InputFault::Lang(moved_lang(fault, piece)))),
@@ -184,7 +182,7 @@ fn judged(context: Context<'_>, piece: Piece<'_>) -> Result<Judged, Memory> {
 }
 
 // Judges the sources of a piece under a schema: their code, then their clauses.
-fn judged_under(
+fn judge_under(
     alloc: Global,
     schema: &Schema,
     piece: Piece<'_>,
