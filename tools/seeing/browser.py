@@ -5,6 +5,7 @@
 
 import base64
 import json
+import re
 import shutil
 import socket
 import subprocess
@@ -133,3 +134,24 @@ class Browser:
 
     def picture(self, file: Path) -> None:
         file.write_bytes(base64.b64decode(self.call("/screenshot")))
+
+
+class Served:
+    """A tool that serves a page until it is ended, and the page's address."""
+
+    def __init__(self, browser: Browser, *words: str | Path):
+        self.browser = browser
+        self.process = subprocess.Popen(words, stderr=subprocess.PIPE, text=True)
+        for line in self.process.stderr:
+            if found := re.search(r"http://\S+", line):
+                self.url = found[0]
+                return
+        sys.exit(f"{words[0]} serves nothing")
+
+    def __enter__(self):
+        return self.url
+
+    def __exit__(self, *_):
+        self.browser.visit("about:blank")
+        self.process.terminate()
+        self.process.wait()

@@ -32,7 +32,7 @@ function goOn(other) {
   }
   if (!run.totals.lines) return;
   if (input.value) find();
-  else if (isFollowing) follow(true);
+  else if (isFollowing && !(isFirst && location.hash)) follow(true);
   else show();
 }
 

@@ -1,14 +1,24 @@
 """Follows a run that goes on: the lines that were written so far, as a page that asks for them gets them."""
 
 import os
+from dataclasses import replace
 from pathlib import Path
 from threading import Lock
 
 from given import Given
 from page import packed
 from reader import NoTrace, Reader
-from replay import Replay
-from run import LINE_LIMIT
+from replay import GOES_ON, Replay
+from run import LINE_LIMIT, Run
+
+
+def so_far(reader: Reader) -> Run:
+    """The run up to here, where more lines may come. Of the step in which it is, no values are told."""
+    reader.settle()
+    step, until, why = reader.step, reader.replay.until, reader.replay.why
+    if reader.replay.lines:
+        step, until, why = replace(step, values={}), step.first, GOES_ON
+    return replace(reader.run, kept=reader.run.kept.with_last(step), until=until, why=why)
 
 
 class Following:
@@ -50,7 +60,7 @@ class Following:
             version = self.version
             is_on = not (self.is_over or self.reader.run.finish)
             more = {"isOn": is_on and not self.fault, "fault": self.fault}
-            return version, packed(self.reader.so_far(), more=more) if version != known else b""
+            return version, packed(so_far(self.reader), more=more) if version != known else b""
 
     def close(self) -> None:
         if self.replay:

@@ -34,7 +34,7 @@ function showTotals() {
 function showNotices(fault = "") {
   const { lines, cycles, dropped } = run.totals;
   const isCut = !run.finish && lines > 0 && !run.isOn;
-  const wrong = run.fault && `What comes then is no more of this trace: ${run.fault}`;
+  const wrong = run.fault && (lines ? `What comes then is no more of this trace: ${run.fault}` : run.fault);
   const live = [fault, wrong].filter(Boolean).map((it) => html("p", {}, it));
   const cut = isCut && html("p", {},
     "This trace is cut: it has no ", html("code", {}, "finish"), " line, so memory ran out or the output failed. ",

@@ -6,12 +6,12 @@ a replay it knows the values of slots.
 
 import re
 from collections.abc import Iterable
-from dataclasses import dataclass, replace
+from dataclasses import dataclass
 
 from foci import Foci, Held
 from forms import FORMS, told_refusal, told_unknown
 from given import First, Given
-from replay import CUT, FLOOR, GOES_ON, Differs, Replay
+from replay import CUT, FLOOR, Differs, Replay
 from run import LINE_LIMIT, Activation, Line, Run, Source, Step, Unit
 
 ANOTHER = "so the input is not that of this trace"
@@ -117,15 +117,6 @@ class Reader:
         self.settle_causes()
         self.step.waiting = len(self.run.waiting)
         self.run.longest = max(self.run.longest, self.step.waiting)
-
-    def so_far(self) -> Run:
-        """The run up to here, where more lines may come. Of the step in which it is, no values are told."""
-        self.settle()
-        step = replace(self.step, values={}) if self.replay.lines else self.step
-        until, why = self.replay.until, self.replay.why
-        if self.replay.lines:
-            until, why = step.first, GOES_ON
-        return replace(self.run, kept=self.run.kept.with_last(step), until=until, why=why)
 
     def end(self) -> Run:
         """There are no more lines. Of a step in which the trace is cut, what a replay holds at its end is left out."""
