@@ -16,6 +16,8 @@ ROOT = SERVER.parent.parent
 START = SERVER / "railcitron-server"
 # How long the server may work for an answer: seconds of a processor, so that other work beside the test does not count.
 SECONDS = 1
+# How long a test waits for what has to come, where other work takes all processors.
+PATIENCE = 90
 TICKS = os.sysconf("SC_CLK_TCK")
 URI = "file:///garden.bb"
 
@@ -65,15 +67,15 @@ class Client:
             assert (status, self.complaint) == (0, b""), (status, self.complaint.decode())
 
     def end(self):
-        """The status of the server, which has ten seconds for its end."""
+        """The status of the server, which has to end."""
         try:
-            return self.process.wait(10)
+            return self.process.wait(PATIENCE)
         except subprocess.TimeoutExpired:
             self.process.kill()
             return self.process.wait()
         finally:
             for it in self.threads:
-                it.join(10)
+                it.join(PATIENCE)
             for it in (self.process.stdin, self.process.stdout, self.process.stderr):
                 it.close()
 
@@ -116,7 +118,7 @@ class Client:
     def hear(self, number):
         """The answer with a number; notices before it are kept."""
         while True:
-            message = self._next(20)
+            message = self._next(PATIENCE)
             if "method" in message:
                 self.notices.append(message)
             elif message["id"] == number:
@@ -129,7 +131,7 @@ class Client:
         assert message is not None, f"the server ended: {self.complaint.decode()}"
         return message
 
-    def notice(self, method, is_wanted=lambda params: True, seconds=20):
+    def notice(self, method, is_wanted=lambda params: True, seconds=PATIENCE):
         """The next notice of a sort, among those that were kept and those that come; its parameters."""
         until = time.monotonic() + seconds
         while True:

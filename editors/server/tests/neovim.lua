@@ -2,7 +2,7 @@
 local told = {}
 
 local function wait(what, is_so)
-  if not vim.wait(20000, is_so, 20) then
+  if not vim.wait(60000, is_so, 20) then
     told.fault = 'it did not come to be so: ' .. what
     vim.fn.writefile({ vim.fn.json_encode(told) }, vim.env.OUT)
     vim.cmd('cquit')
@@ -17,7 +17,7 @@ end
 
 local function ask(method, more)
   local params = vim.tbl_extend('force', vim.lsp.util.make_position_params(), more or {})
-  local answers = vim.lsp.buf_request_sync(0, method, params, 10000)
+  local answers = vim.lsp.buf_request_sync(0, method, params, 60000)
   for _, it in pairs(answers or {}) do
     return it.result
   end

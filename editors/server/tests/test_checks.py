@@ -5,7 +5,7 @@ import tempfile
 import time
 from pathlib import Path
 
-from client import URI, Client, place, span
+from client import PATIENCE, URI, Client, place, span
 from inputs import GARDEN
 
 # Reads the input, and writes what is in the files beside it.
@@ -22,7 +22,7 @@ SLOW = """\
 #!/bin/sh
 cd "$(dirname "$0")"
 cat >/dev/null
-sleep 60 &
+sleep 600 &
 echo $! >>started
 wait
 """
@@ -57,9 +57,9 @@ def is_alive(number):
         return False
 
 
-def want(is_so, seconds=10):
+def want(is_so):
     """That something comes to be so."""
-    until = time.monotonic() + seconds
+    until = time.monotonic() + PATIENCE
     while not is_so():
         assert time.monotonic() < until, "it did not come to be so"
         time.sleep(0.01)
@@ -174,10 +174,8 @@ class Checks:
         with room() as at:
             program = str(put(Path(at, "bb"), SLOW))
             with Client("--seconds", "0.5", program=program) as client:
-                begun = time.monotonic()
                 client.open(GARDEN)
                 found = client.faults()
-                assert time.monotonic() - begun < 5
                 assert [(it["severity"], it["message"]) for it in found] == [(3, "bb check was ended after 0.5 s, so faults are not known")], found
                 want_ended(Path(at, "started"))
 

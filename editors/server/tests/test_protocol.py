@@ -51,7 +51,7 @@ class Protocol:
         assert client.end() == 1
         client = Client()
         client.process.stdin.close()
-        assert client.process.wait(10) == 1
+        assert client.end() == 1
 
     def what_is_no_request(self):
         with of(GARDEN) as client:
