@@ -171,7 +171,6 @@ class Run(Looks):
         self._asks = asks
         try:
             yield asks
-            want()
         except BaseException:
             self._asks = None
             self._call("bb_discard")
@@ -179,7 +178,11 @@ class Run(Looks):
         finally:
             asks._is_open, self._asks = False, None
         self._hear()
-        self._stands = self._call(move)
+        stands = self._call(move)
+        if stands == calls.MISUSE:
+            self._call("bb_discard")
+            want()
+        self._stands = stands
         asks.refused = [RefusedAsk(int(number), int(reason)) for number, reason in _REFUSED.findall(self._hear())]
         self._goes_on(self._stands)
 

@@ -165,6 +165,19 @@ class Library(unittest.TestCase):
                 asks.set(1, "seen", True)
             self.assertEqual((run.get(1, "count"), run.get(1, "seen")), (7, True))
 
+    def test_asks_stay_where_they_are_not_taken(self):
+        """The calls of the library alone: a post while a native is due, and an answer while none is."""
+        sources = "%sources\nsource count on note { when create note; rate 50; native; }\n"
+        with railcitron.Run(SCHEMA + sources, natives=["count"]) as run:
+            self.assertEqual(run._call("bb_ask_new", b"note", 4), 0)
+            self.assertEqual([run._call(it) for it in ("bb_answer", "bb_post")], [9, 3])
+            self.assertEqual(run.units("note"), [1])
+            self.assertRaises(railcitron.Due, run.turn)
+            self.assertEqual(run._call("bb_ask_int", 1, b"count", 5, 7), 0)
+            self.assertEqual((run.read().count("\n"), run._call("bb_post"), run.read(), run.get(1, "count")), (5, 9, "", 0))
+            self.assertEqual((run._call("bb_answer"), run.get(1, "count"), run.due), (3, 7, None))
+            self.assertEqual([run._call(it) for it in ("bb_answer", "bb_finish", "bb_answer", "bb_post")], [9, 0, 9, 9])
+
     def test_a_run_that_is_full(self):
         with railcitron.Run(DATA) as run:
             with self.assertRaises(railcitron.Full), run.post() as asks:

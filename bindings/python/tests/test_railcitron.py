@@ -345,6 +345,18 @@ class Posts(unittest.TestCase):
                 self.assertRaises(fault, run.post)
             self.assertFalse({"bb_discard", "bb_post"} & {*library.names()}, given)
 
+    def test_asks_that_are_not_taken(self):
+        library = Library(bb_post=[9, 3])
+        with railcitron.Run(b"", library=library) as run:
+            with self.assertRaises(railcitron.Due), run.post() as asks:
+                asks.say("")
+                library.due.append((7, "weigh"))
+            self.assertEqual(library.names()[-2:], ["bb_post", "bb_discard"])
+            self.assertEqual(repr(run), "<railcitron.Run: at rest>")
+            library.due.clear()
+            with run.post():
+                pass
+
     def test_what_became_of_a_run_meanwhile(self):
         library = Library()
         with railcitron.Run(b"", library=library) as run:

@@ -108,7 +108,8 @@ typedef struct bb_run {
    - BB_MEMORY: memory ran out. If it ran out in this move or an earlier one, the run can only be read and closed, and
      the blackboard may be as it was in the middle of the move. After `bb_open` there is no run. Any other call did
      nothing, and may be tried again.
-   - BB_MISUSE: the run does not exist, or was finished; for `bb_open`, it is already open. Nothing was done. */
+   - BB_MISUSE: the run does not exist, or was finished; for `bb_open`, it is already open; for `bb_post`, a native is
+     due; for `bb_answer`, none is. Nothing was done, and the gathered asks stay. */
 enum {
     BB_OK = 0,      /* the call was made */
     BB_NONE = 1,    /* nothing was found */
@@ -160,15 +161,15 @@ uint8_t bb_ask_say(bb_run *run, const uint8_t *text, size_t text_len);
 uint8_t bb_discard(bb_run *run);
 
 /* Posts the gathered asks: they are applied in order, and the sources respond to the changes. Then no asks are
-   gathered. If the run is over, or a native is due, nothing is applied, and the asks are lost: call `bb_due` first. */
+   gathered. BB_MISUSE: a native is due, which has to be answered first, and the asks stay. If the run is over, nothing
+   is applied, and the asks are dropped. */
 uint8_t bb_post(bb_run *run);
 
 /* The unit on which a native is due, and the native's name. BB_NONE: no native is due. */
 uint8_t bb_due(bb_run *run, uint64_t *unit, uint8_t *to, size_t to_len, size_t *len);
 
 /* Answers for the native that is due with the gathered asks, perhaps none: they are applied in order, as if the native
-   had been called and had asked for them. Then no asks are gathered. If no native is due, nothing is applied, and the
-   asks are lost. */
+   had been called and had asked for them. Then no asks are gathered. BB_MISUSE: no native is due, and the asks stay. */
 uint8_t bb_answer(bb_run *run);
 
 /* The number that the next new unit gets, gathered asks not counted. 0: the run does not exist or was finished. */

@@ -1,4 +1,5 @@
 pub mod Handle
 pub mod Heap
+pub mod MisuseLemmas
 pub mod ServedLemmas
 pub mod OpenLemmas

@@ -4,7 +4,7 @@ use Rattle.std.specs.Prelude.{◌≡◌, ◌⊎◌, ◌++◌, ◌∷◌, [], ◌
 use Rattle.bb_c_run.specs.Ask.{Ask}
 use Rattle.bb_c_run.specs.Ask.TheVariants.{Set}
 use Rattle.bb_c_run.specs.Moves.{Move}
-use Rattle.bb_c_run.specs.Moving.{Ends, Moves}
+use Rattle.bb_c_run.specs.Moving.{Answers, Ends, Moves, Posts, left_by}
 use Rattle.bb_c_run.specs.Opening.{Begins, meaning_of}
 use Rattle.bb_c_run.specs.Sitting.{label_in, made_in, next_in, stands_now, unread}
 use Rattle.bb_c_run.specs.declared.held.Held.{Held}
@@ -22,6 +22,7 @@ status_of stand.Due = DUE
 status_of stand.Full = FULL
 status_of stand.Memory = MEMORY
 status_of stand.Finished = MISUSE
+status_of stand.Misused = MISUSE
 
 -- the run of an input was begun, and the status is its state; or the input is refused, or memory ran out
 abbrev pub Begun : (input natives : List ℕ) → (floor : ℤ) → Option Held → (status : ℕ) → Type 0
@@ -48,16 +49,22 @@ abbrev pub Calls : Move → (old new : Option Held) → (status : ℕ) → Type 
 Calls m None new status = (new ≡ None) × (status ≡ MISUSE)
 Calls m (Some h) new status = Turns m h new status
 
--- the gathered asks went into a move, and none are gathered any more
-abbrev pub Tells : (List Ask → Move) → Held → Option Held → (status : ℕ) → Type 0
-Tells of h None status = ⊥
-Tells of h (Some k) status =
-    ((s : Stands) × (status ≡ status_of s)
-    × Moves (of h.asks.items) h.running k.running (unread h.trace) (unread k.trace) s) × (k.asks.items ≡ [])
+-- a post, and an answer, with the asks that were gathered
+abbrev pub Posted : Held → Held → Stands → Type 0
+Posted h k s = Posts h.asks.items h.running k.running (unread h.trace) (unread k.trace) s
 
-abbrev pub Applies : (List Ask → Move) → (old new : Option Held) → (status : ℕ) → Type 0
-Applies of None new status = (new ≡ None) × (status ≡ MISUSE)
-Applies of (Some h) new status = Tells of h new status
+abbrev pub Answered : Held → Held → Stands → Type 0
+Answered h k s = Answers h.asks.items h.running k.running (unread h.trace) (unread k.trace) s
+
+-- the gathered asks went into a post or an answer, and none are gathered any more; or it did nothing, and they stay
+abbrev pub Tells : (Held → Held → Stands → Type 0) → Held → Option Held → (status : ℕ) → Type 0
+Tells does h None status = ⊥
+Tells does h (Some k) status =
+    (s : Stands) × (status ≡ status_of s) × does h k s × (k.asks.items ≡ left_by s h.asks.items)
+
+abbrev pub Applies : (Held → Held → Stands → Type 0) → (old new : Option Held) → (status : ℕ) → Type 0
+Applies does None new status = (new ≡ None) × (status ≡ MISUSE)
+Applies does (Some h) new status = Tells does h new status
 
 -- the run was ended, the status tells how, and what it emitted can be read; or a native is due
 abbrev pub Ended : Held → Option Held → (status : ℕ) → Type 0

@@ -1,9 +1,10 @@
 //! The calls that begin, move and end a run.
 
 ghost use Rattle.std.specs.Prelude.{◌≡◌, None};
-ghost use Rattle.bb_c_run.specs.Moves.{advance, answer, one_turn, post};
-ghost use Rattle.bb_c.specs.Called.{Applies, Calls, Finishes, Opens};
+ghost use Rattle.bb_c_run.specs.Moves.{advance, one_turn};
+ghost use Rattle.bb_c.specs.Called.{Answered, Applies, Calls, Finishes, Opens, Posted};
 ghost use Rattle.bb_c.specs.Looked.{IfText};
+ghost use Rattle.bb_c.specs.declared.status.TheConstants.{MISUSE};
 
 use crate::run::Run;
 use crate::status::{MEMORY, MISUSE, REFUSED, status_of};
@@ -81,10 +82,13 @@ pub extern "C" fn bb_advance(alloc: Global, run: &mut Run, cycles: u32) -> u8
     status
 }
 
-/// Posts the gathered asks. Returns the state of the run, as `bb_turn` does.
+/// Posts the gathered asks. Returns the state of the run, as `bb_turn` does; or 9, and the run and the asks are as they
+/// were, if a native is due.
+#[tactic(auto, using(crate::proofs::MisuseLemmas::misuse_keeps))]
 #[unsafe(no_mangle)]
 pub extern "C" fn bb_post(alloc: Global, run: &mut Run) -> u8
-    ensures { Applies post run.old.sitting run.new.sitting result }
+    ensures applies { Applies Posted run.old.sitting run.new.sitting result }
+    ensures misuse { result ≡ MISUSE → run.new.sitting ≡ run.old.sitting }
 {
     let Some(mut held) = run.take(alloc) else {
         return MISUSE;
@@ -94,11 +98,13 @@ pub extern "C" fn bb_post(alloc: Global, run: &mut Run) -> u8
     status
 }
 
-/// Answers for the native that is due with the gathered asks. If none is due, they are discarded, and nothing else
-/// happens. Returns the state of the run, as `bb_turn` does.
+/// Answers for the native that is due with the gathered asks. Returns the state of the run, as `bb_turn` does; or 9, and
+/// the run and the asks are as they were, if no native is due.
+#[tactic(auto, using(crate::proofs::MisuseLemmas::misuse_keeps))]
 #[unsafe(no_mangle)]
 pub extern "C" fn bb_answer(alloc: Global, run: &mut Run) -> u8
-    ensures { Applies answer run.old.sitting run.new.sitting result }
+    ensures applies { Applies Answered run.old.sitting run.new.sitting result }
+    ensures misuse { result ≡ MISUSE → run.new.sitting ≡ run.old.sitting }
 {
     let Some(mut held) = run.take(alloc) else {
         return MISUSE;

@@ -1,3 +1,4 @@
+pub mod AskLemmas
 pub mod EndLemmas
 pub mod Laws
 pub mod NameLemmas

@@ -1,9 +1,9 @@
 //! A held run, and its moves. The calls for C (bb_c) make them.
 
-ghost use Rattle.std.specs.Prelude.{◌≡◌, ◌++◌, ◌∷◌, [], IfErr, IfOk, OnOk, OnErr, Some, None, drop, length, map, min, take};
+ghost use Rattle.std.specs.Prelude.{◌≡◌, ◌++◌, ◌∷◌, [], IfErr, IfOk, OnOk, OnErr, Some, None, drop, length, map, min, take, true};
 ghost use Rattle.std.specs.Str.Lines.{lines};
-ghost use Rattle.bb_c_run.specs.Moving.{Ends, Moves};
-ghost use Rattle.bb_c_run.specs.Moves.{advance, answer, one_turn, post};
+ghost use Rattle.bb_c_run.specs.Moving.{Answers, Ends, Moves, Posts, did_nothing, left_by};
+ghost use Rattle.bb_c_run.specs.Moves.{advance, one_turn};
 ghost use Rattle.bb_c_run.specs.Opening.{Begins, meaning_of};
 ghost use Rattle.bb_c_run.specs.Sitting.{stands_now, unread};
 ghost use Rattle.bb_shell.specs.Meaning.{Meaning};
@@ -178,17 +178,24 @@ impl Held {
         self.asks.clear();
     }
 
-    /// Posts the gathered asks, which tell the run what happened. No asks are gathered afterwards. Returns the state of
-    /// the run.
+    /// Posts the gathered asks, which tell the run what happened. No asks are gathered afterwards. If a native is due, or
+    /// the run is finished, nothing happens, and the asks stay gathered. Returns the state of the run.
+    #[tactic(auto, using(crate::proofs::AskLemmas::left_none, crate::proofs::AskLemmas::moved_keeps))]
     pub fn post(&mut self) -> Stands
-        ensures moves { Moves (post self.old.asks.items) self.old.running self.new.running
+        ensures posts { Posts self.old.asks.items self.old.running self.new.running
             (unread self.old.trace) (unread self.new.trace) result }
-        ensures asks { self.new.asks.items ≡ [] }
+        ensures asks { self.new.asks.items ≡ left_by result self.old.asks.items }
+        ensures kept { did_nothing result ≡ true → self.new ≡ self.old }
     {
-        let asks = mem::replace(&mut self.asks, Vec::new(self.alloc));
+        if let Some(running) = &self.running {
+            if running.pause().is_due() && !running.was_cut() {
+                return Stands::Misused;
+            }
+        }
         let Some(running) = &mut self.running else {
             return Stands::Finished;
         };
+        let asks = mem::replace(&mut self.asks, Vec::new(self.alloc));
         if running.was_cut() || self.trace.failed() {
             return Stands::Memory;
         }
@@ -199,16 +206,23 @@ impl Held {
     }
 
     /// Answers for the native that is due with the gathered asks. No asks are gathered afterwards. If no native is due,
-    /// they are discarded, and nothing else happens. Returns the state of the run.
+    /// or the run is finished, nothing happens, and the asks stay gathered. Returns the state of the run.
+    #[tactic(auto, using(crate::proofs::AskLemmas::left_none, crate::proofs::AskLemmas::moved_keeps))]
     pub fn answer(&mut self) -> Stands
-        ensures moves { Moves (answer self.old.asks.items) self.old.running self.new.running
+        ensures answers { Answers self.old.asks.items self.old.running self.new.running
             (unread self.old.trace) (unread self.new.trace) result }
-        ensures asks { self.new.asks.items ≡ [] }
+        ensures asks { self.new.asks.items ≡ left_by result self.old.asks.items }
+        ensures kept { did_nothing result ≡ true → self.new ≡ self.old }
     {
-        let asks = mem::replace(&mut self.asks, Vec::new(self.alloc));
+        if let Some(running) = &self.running {
+            if !running.pause().is_due() && !running.was_cut() {
+                return Stands::Misused;
+            }
+        }
         let Some(running) = &mut self.running else {
             return Stands::Finished;
         };
+        let asks = mem::replace(&mut self.asks, Vec::new(self.alloc));
         if running.was_cut() || self.trace.failed() {
             return Stands::Memory;
         }

@@ -20,6 +20,8 @@ pub enum Stands {
     Memory,
     /// The run is finished, so the call did nothing.
     Finished,
+    /// The call can't be made now, so it did nothing: a native is due at a post, or none is at an answer.
+    Misused,
 }
 
 /// Returns the state of a run between two moves.

@@ -158,6 +158,33 @@ fn a_native_that_is_answered(rt: HostRuntime) -> Result<(), Fail> {
     Ok(())
 }
 
+// Answers while no native is due, and posts while one is. Returns whether each call did what it can do.
+fn asks_stay(held: &mut Held) -> bool {
+    held.answer() == Stands::Misused
+        && held.post() == Stands::Going
+        && held.next_unit() == 2
+        && held.turn() == Stands::Due
+        && held.post() == Stands::Misused
+        && held.answer() == Stands::Going
+        && held.answer() == Stands::Misused
+        && held.finish() == Stands::Resting
+        && held.post() == Stands::Finished
+}
+
+#[test]
+fn asks_that_are_not_taken(rt: HostRuntime) -> Result<(), Fail> {
+    let alloc = rt.alloc();
+    let Ok(held) = Held::open(alloc, PRICED.as_bytes(), "price", 0) else {
+        return Err(Fail::from("the run begins"));
+    };
+    let mut held = held;
+    held.ask(Ask::New {
+        class: Text::from_str(alloc, "crate")?,
+    })?;
+    assert!(rt; asks_stay(&mut held));
+    Ok(())
+}
+
 #[test]
 fn the_whole_of_a_run(rt: HostRuntime) -> Result<(), Fail> {
     let alloc = rt.alloc();
