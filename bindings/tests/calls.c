@@ -53,7 +53,109 @@ static int asks_stay(void)
     return 0;
 }
 
+/* Whether a call tells this of an input that `bb_open` refuses, with these natives, also if it is asked for its length
+   alone, and if there is less room. */
+static int explains(uint8_t (*call)(const uint8_t *, size_t, const uint8_t *, size_t, int64_t, uint8_t *, size_t, size_t *),
+                    const char *data, const char *natives, const char *wanted)
+{
+    uint8_t text[512];
+    size_t len = 0, whole = 0, part = strlen(wanted) / 2;
+    const uint8_t *bytes = (const uint8_t *)data, *names = (const uint8_t *)natives;
+    bb_run run = BB_RUN_NONE;
+    WANT(bb_open(&run, bytes, strlen(data), names, strlen(natives), 0) == BB_REFUSED);
+    WANT(call(bytes, strlen(data), names, strlen(natives), 0, bb_room(NULL), 0, &whole) == BB_OK);
+    WANT(whole == strlen(wanted));
+    text[part] = '!';
+    WANT(call(bytes, strlen(data), names, strlen(natives), 0, text, part, &len) == BB_OK && len == whole);
+    WANT(memcmp(text, wanted, part) == 0 && text[part] == '!');
+    WANT(call(bytes, strlen(data), names, strlen(natives), 0, text, sizeof text, &len) == BB_OK && len == whole);
+    WANT(memcmp(text, wanted, len) == 0);
+    return 0;
+}
+
+/* Why an input is refused: the line, and the message, with the natives that the host has. */
+static int refusals_are_told(void)
+{
+    static const char no_json[] = "%schema\n{";
+    uint8_t text[] = "as it is";
+    size_t len = 7;
+    WANT(explains(bb_refusal, no_json, "", "refused schema 1") == 0);
+    WANT(explains(bb_explain, no_json, "", "schema: it is not JSON\n  | line 1, column 2, line 2 of the input\n  | {\n  |  ^") == 0);
+    WANT(explains(bb_refusal, input, "wiegh", "refused rule weigh 8") == 0);
+    WANT(explains(bb_explain, input, "", "source weigh: there is no native of this name") == 0);
+    WANT(bb_refusal(BB_S(input), BB_S("weigh"), 0, text, sizeof text, &len) == BB_NONE);
+    WANT(bb_explain(BB_S(input), BB_S("weigh"), 0, text, sizeof text, &len) == BB_NONE);
+    WANT(bb_refusal(BB_S(no_json), BB_S("\xff"), 0, text, sizeof text, &len) == BB_REFUSED);
+    WANT(bb_explain(BB_S(no_json), BB_S("\xff"), 0, text, sizeof text, &len) == BB_REFUSED);
+    WANT(len == 7 && memcmp(text, "as it is", sizeof text) == 0);
+    return 0;
+}
+
+static const char shop[] =
+    "%schema\n"
+    "{\"labels\":[{\"name\":\"state\",\"values\":[\"waiting\",\"done\"]}],"
+    "\"classes\":[{\"name\":\"job\",\"slots\":[{\"name\":\"name\",\"kind\":\"text\"},"
+    "{\"name\":\"state\",\"kind\":\"label\",\"of\":\"state\"}],"
+    "\"links\":[{\"name\":\"next\",\"to\":\"job\",\"many\":true,\"inverse\":\"last\"},"
+    "{\"name\":\"last\",\"to\":\"job\",\"many\":true,\"inverse\":\"next\"}]}]}\n"
+    "%units\n"
+    "{\"units\":[{\"name\":\"a\",\"class\":\"job\",\"slots\":{\"name\":\"posters\"}},{\"name\":\"b\",\"class\":\"job\"}]}\n"
+    "%sources\n"
+    "source state on job { when create job; rate 1; native; }\n";
+
+/* NULL stands for no bytes and for no room, whatever length comes with it. Arguments that are only read may be one. */
+static int null_is_nothing(void)
+{
+    bb_run run = BB_RUN_NONE;
+    uint64_t unit = 0;
+    size_t len = 0;
+    WANT(bb_open(&run, NULL, 7, NULL, 7, 0) == BB_REFUSED);
+    WANT(bb_refusal(NULL, 7, NULL, 7, 0, NULL, 7, &len) == BB_OK && len == strlen("refused input sections"));
+    WANT(bb_explain(NULL, 0, NULL, 0, 0, NULL, 0, &len) == BB_OK && len > 0);
+    WANT(bb_open(&run, BB_S(shop), BB_S("state"), 0) == BB_GOING);
+    WANT(bb_text(&run, 1, BB_S("name"), NULL, 7, &len) == BB_OK && len == strlen("posters"));
+    WANT(bb_class(&run, 1, NULL, 0, &len) == BB_OK && len == strlen("job"));
+    WANT(bb_units(&run, BB_S("job"), NULL, 2, &len) == BB_OK && len == 2);
+    WANT(bb_ask_label(&run, 1, BB_S("state"), BB_S("state"), BB_S("done")) == BB_OK);
+    WANT(bb_ask_link(&run, 1, BB_S("next"), 2) == BB_OK);
+    WANT(bb_ask_text(&run, 2, BB_S("name"), NULL, 0) == BB_OK);
+    WANT(bb_ask_say(&run, NULL, 0) == BB_OK);
+    WANT(bb_post(&run) == BB_GOING);
+    WANT(bb_label(&run, 1, BB_S("state"), NULL, 0, &len) == BB_OK && len == strlen("done"));
+    WANT(bb_links(&run, 1, BB_S("next"), NULL, 1, &len) == BB_OK && len == 1);
+    WANT(bb_text(&run, 2, BB_S("name"), NULL, 0, &len) == BB_OK && len == 0);
+    WANT(bb_document(&run, NULL, 0, &len) == BB_OK && len > 100);
+    WANT(bb_read(&run, NULL, 9, &len) == BB_OK && len == 0);
+    WANT(bb_turn(&run) == BB_DUE);
+    WANT(bb_due(&run, &unit, NULL, 0, &len) == BB_OK && unit == 1 && len == strlen("state"));
+    bb_close(&run);
+    WANT(bb_serve(NULL, 0, BB_RUN, 1, 0, NULL, 0, NULL) == BB_ROOM);
+    return 0;
+}
+
+/* What a handle without a run answers: one that was never opened, one that was closed, and one whose run was finished. */
+static int a_handle_without_a_run(void)
+{
+    bb_run run = BB_RUN_NONE;
+    size_t len = 7;
+    for (int closed = 0; closed < 2; closed++) {
+        WANT(bb_turn(&run) == BB_MISUSE && bb_advance(&run, 1) == BB_MISUSE && bb_finish(&run) == BB_MISUSE);
+        WANT(bb_post(&run) == BB_MISUSE && bb_answer(&run) == BB_MISUSE && bb_discard(&run) == BB_MISUSE);
+        WANT(bb_ask_delete(&run, 1) == BB_MISUSE && bb_ask_new(&run, BB_S("box")) == BB_MISUSE);
+        WANT(bb_class(&run, 1, NULL, 0, &len) == BB_MISUSE && bb_document(&run, NULL, 0, &len) == BB_MISUSE && len == 7);
+        WANT(bb_read(&run, NULL, 0, &len) == BB_MISUSE && len == 0);
+        WANT(bb_made(&run) == 0 && bb_next(&run) == 0);
+        len = 7;
+        bb_close(&run);
+        WANT(bb_open(&run, BB_S(input), BB_S("weigh"), 0) == BB_GOING);
+        WANT(bb_open(&run, BB_S(input), BB_S("weigh"), 0) == BB_MISUSE);
+        WANT(bb_turn(&run) == BB_RESTING && bb_next(&run) == 1);
+        bb_close(&run);
+    }
+    return 0;
+}
+
 int main(void)
 {
-    return asks_stay();
+    return asks_stay() || refusals_are_told() || null_is_nothing() || a_handle_without_a_run();
 }

@@ -34,6 +34,18 @@ static uint8_t *read_file(const char *path, size_t *len)
     return bytes;
 }
 
+/* Tells why an input is refused. */
+static void explain(const uint8_t *input, size_t input_len)
+{
+    size_t len;
+    if (bb_explain(input, input_len, BB_S("weigh"), 0, NULL, 0, &len) != BB_OK)
+        return;
+    uint8_t *text = malloc(len + 1);
+    if (text != NULL && bb_explain(input, input_len, BB_S("weigh"), 0, text, len, &len) == BB_OK)
+        fprintf(stderr, "scale: %.*s\n", (int)len, (const char *)text);
+    free(text);
+}
+
 /* Reads what the run told, which is of no use here. */
 static void skip_trace(bb_run *run)
 {
@@ -95,7 +107,7 @@ static uint8_t parcel_comes(bb_run *run, const char *name, int64_t grams)
 static int write_document(bb_run *run)
 {
     size_t len;
-    if (bb_document(run, bb_room(NULL), 0, &len) != BB_OK)
+    if (bb_document(run, NULL, 0, &len) != BB_OK)
         return 0;
     uint8_t *text = malloc(len + 1);
     int is_there = text != NULL && bb_document(run, text, len, &len) == BB_OK;
@@ -119,6 +131,8 @@ int main(int count, char **words)
         return fail("the input can't be read");
     bb_run run = BB_RUN_NONE;
     uint8_t stands = bb_open(&run, input, len, BB_S("weigh"), 0);
+    if (stands == BB_REFUSED)
+        explain(input, len);
     free(input);
     while (stands == BB_GOING)
         stands = bb_turn(&run);

@@ -29,7 +29,7 @@ private:
     std::uint8_t status_;
 };
 
-const std::uint8_t *bytes(const std::string &text) { return bb_bytes(text.data()); }
+const std::uint8_t *bytes(const std::string &text) { return reinterpret_cast<const std::uint8_t *>(text.data()); }
 
 // A held run. It can be moved, and is closed once.
 class Run {
@@ -38,6 +38,10 @@ public:
         : run_(new bb_run BB_RUN_NONE)
     {
         stands_ = bb_open(run_.get(), bytes(input), input.size(), bytes(natives), natives.size(), floor);
+        if (stands_ == BB_REFUSED)
+            throw std::runtime_error(text("bb_explain", [&](std::uint8_t *to, std::size_t room, std::size_t *len) {
+                return bb_explain(bytes(input), input.size(), bytes(natives), natives.size(), floor, to, room, len);
+            }));
         if (stands_ != BB_GOING && stands_ != BB_FULL)
             throw Fault("bb_open", stands_);
     }

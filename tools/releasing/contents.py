@@ -6,7 +6,7 @@ import re
 import shutil
 import subprocess
 
-from common import CC, PROGRAMS, RIGHTS, ROOT, TARGET, Failed, calls_of, files_of, kit, output_of, run, say
+from common import CC, PROGRAMS, RIGHTS, ROOT, TARGET, Failed, files_of, kit, output_of, run, say
 from common import version_of, version_of_calls
 from wheel import put_wheel
 
@@ -111,7 +111,6 @@ def put_library(made, folder):
     calls of the header and nothing else. A shared one that is there already is taken."""
     archive, shared = made.built("bb_c", "libbb_c.a"), made.built("bb_c", "libbb.so")
     header, lib = folder / "include/bb.h", folder / "lib"
-    named = f"libbb.so.{version_of_calls(header)}"
     if not archive and not shared:
         return say("the library is not built, and left out: `./build bb_c` makes it")
     lib.mkdir()
@@ -119,19 +118,12 @@ def put_library(made, folder):
         parts = [archive, *sorted((kit() / "c").glob("lib*_c.a"))]
         script = [f"create {lib / 'libbb.a'}", *(f"addlib {it}" for it in parts), "save", "end", ""]
         run("ar", "-M", input="\n".join(script), text=True)
-        link_shared(lib, named, calls_of(header))
+        run(ROOT / "bindings/shared", lib, lib / "libbb.a", "--header", header)
     else:
         say("libbb_c.a is not built, so there is no library for hosts in C that are linked without the shared one")
+        named = f"libbb.so.{version_of_calls(header)}"
         shutil.copy2(shared, lib / named)
-    (lib / "libbb.so").symlink_to(named)
-
-
-def link_shared(lib, named, calls):
-    exports = lib / "exports"
-    exports.write_text("{ global: " + "".join(f"{it}; " for it in calls) + "local: *; };\n")
-    whole = ["-Wl,--whole-archive", lib / "libbb.a", "-Wl,--no-whole-archive"]
-    run(CC, "-shared", "-s", f"-Wl,-soname,{named},--version-script,{exports}", *whole, "-o", lib / named)
-    exports.unlink()
+        (lib / "libbb.so").symlink_to(named)
 
 
 def put_pages(checkout, folder):

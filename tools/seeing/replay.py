@@ -114,7 +114,7 @@ class Replay:
         except (railcitron.OutOfMemory, MemoryError):
             self.stop(line, MEMORY)
         except railcitron.Refused as fault:
-            raise Differs(f"the library refuses the input: {ascii(str(fault))}") from None
+            raise Differs(f"the library refuses the input: {ascii(fault.line or fault.message)}") from None
         finally:
             self.left -= time.monotonic() - began
 

@@ -123,7 +123,7 @@ class ValueTests:
 
     def an_input_that_the_library_refuses_is_refused(self):
         def opened():
-            raise railcitron.Refused("refused rule hail 2")
+            raise railcitron.Refused("refused rule hail 2", "why")
 
         said = refusal_of(WHOLE, input_of(INPUT), replay=Replay(opened))
         assert said.startswith("line 1: the library refuses the input: 'refused rule hail 2', so the input"), said

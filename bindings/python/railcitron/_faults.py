@@ -10,17 +10,18 @@ class Fault(Exception):
 class Refused(Fault):
     """An input is refused, or what an ask names or holds.
 
-    `line` is the line by which the program refuses the input. It is None for an ask, and for an input for which no call of
-    the library finds the line.
+    `message` says what is wrong. Of an input it is what the program writes to standard error: a sentence and, on lines
+    below it, what the input has at that place. `line` is the line by which the program refuses the input; None for an ask,
+    and if there was no memory for it.
     """
 
-    def __init__(self, line: str | None, why: str | None = None) -> None:
-        super().__init__(line, why)
+    def __init__(self, line: str | None, message: str) -> None:
+        super().__init__(line, message)
         self.line = line
-        self.why = why
+        self.message = message
 
     def __str__(self) -> str:
-        return self.why or self.line or "refused"
+        return self.message
 
 
 class Full(Fault):

@@ -5,13 +5,11 @@ from __future__ import annotations
 import ctypes
 import functools
 import os
-import re
-from collections.abc import Collection
 from ctypes import POINTER, c_char_p, c_int64, c_size_t, c_uint8, c_uint32, c_uint64
 from pathlib import Path
 from typing import Any
 
-VERSION = 2
+VERSION = 3
 RUN = 0
 
 # Statuses.
@@ -43,6 +41,8 @@ CALLS: dict[str, tuple[Any, list[Any]]] = {
     "bb_version": (c_uint32, []),
     "bb_serve": (c_uint8, [*_BYTES, c_uint8, c_uint32, c_int64, *_BYTES, POINTER(c_size_t)]),
     "bb_open": (c_uint8, [_RUN, *_BYTES, *_BYTES, c_int64]),
+    "bb_refusal": (c_uint8, [*_BYTES, *_BYTES, c_int64, *_TEXT]),
+    "bb_explain": (c_uint8, [*_BYTES, *_BYTES, c_int64, *_TEXT]),
     "bb_turn": (c_uint8, [_RUN]),
     "bb_advance": (c_uint8, [_RUN, c_uint32]),
     "bb_made": (c_uint64, [_RUN]),
@@ -132,23 +132,19 @@ def _type(library: ctypes.CDLL, name: str, file: str, version: str) -> None:
     call.restype, call.argtypes = CALLS[name]
 
 
-def why_refused(library: ctypes.CDLL, data: bytes, floor: int, natives: Collection[str]) -> tuple[str | None, str | None]:
-    """The line by which the library refuses an input, if a call tells it, and what is to be said if none does.
+def why_refused(library: ctypes.CDLL, *opened: Any) -> tuple[str | None, str]:
+    """The line by which the library refuses an input, and its message, given what `bb_open` was passed."""
+    line, message = (_told(getattr(library, name), opened) for name in ("bb_refusal", "bb_explain"))
+    return line, message or line or "the input is refused, and there is no memory to say why"
 
-    The call that tells it has no natives. So it refuses a source of a native that the host has, and what follows such a
-    source is not found.
-    """
-    room = 1 << 12
+
+def _told(call: Any, opened: tuple[Any, ...]) -> str | None:
+    """What a call tells of an input, or None if it tells nothing. What is longer than the room is made twice."""
+    room, length = 1 << 12, c_size_t()
     while True:
-        output, written = ctypes.create_string_buffer(room), c_size_t()
-        status = library.bb_serve(data, len(data), RUN, 0, floor, output, room, ctypes.byref(written))
-        if status != ROOM:
-            break
-        room *= 2
-    line = ctypes.string_at(output, written.value).decode(errors="replace").strip()
-    if status != REFUSED or not line:
-        return None, "the input is refused, and the call that tells why ran out of memory, or finds no fault"
-    own = re.fullmatch(r"refused rule (\w+) 8", line)
-    if own and own[1] in natives:
-        return None, f"the input is refused at the source {own[1]} or after it: the call that tells why has no natives, so it stops there"
-    return line, None
+        text = ctypes.create_string_buffer(room)
+        if call(*opened, text, room, ctypes.byref(length)) != OK:
+            return None
+        if length.value <= room:
+            return ctypes.string_at(text, length.value).decode()
+        room = length.value

@@ -78,9 +78,10 @@ class Run(Looks):
         self._asks: Asks | None = None
         self._stands = calls.MISUSE
         super().__init__(given, library)
-        stands = self._call("bb_open", given, len(given), *as_bytes("\n".join(self._natives)), as_int(floor))
+        opened = (given, len(given), *as_bytes("\n".join(self._natives)), as_int(floor))
+        stands = self._call("bb_open", *opened)
         if stands == calls.REFUSED:
-            raise Refused(*calls.why_refused(self._library, given, floor, self._natives))
+            raise Refused(*calls.why_refused(self._library, *opened))
         if stands == calls.MEMORY:
             raise OutOfMemory("there is no memory for the run")
         self._stands = stands

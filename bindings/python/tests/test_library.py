@@ -272,10 +272,11 @@ class Library(unittest.TestCase):
 
     def test_natives(self):
         sources = "%sources\nsource count on note { when create note; rate 50; native; }\nsource later on note { when create note; rate 9; native; }\n"
-        for natives, line in ((["count"], None), (["later"], "refused rule count 8"), ([], "refused rule count 8")):
+        for natives, name in ((["count"], "later"), (["later"], "count"), ([], "count")):
             with self.assertRaises(railcitron.Refused) as caught:
                 railcitron.Run((SCHEMA + sources).encode(), natives=natives)
-            self.assertEqual(caught.exception.line, line)
+            self.assertEqual(caught.exception.line, f"refused rule {name} 8")
+            self.assertEqual(caught.exception.message, f"source {name}: there is no native of this name")
         with railcitron.Run(SCHEMA + sources, natives={"count": None, "later": None}) as run:
 
             @run.native("count")
@@ -303,6 +304,21 @@ class Library(unittest.TestCase):
             self.assertEqual(run.made, 6)
             told = run.read() + run.finish()
             self.assertEqual((told.count("end native 0\n"), told.count("end native 1\n"), told.count("end native 2\n")), (2, 2, 2))
+
+    def test_why_an_input_is_refused(self):
+        text = 'source hail on note { when create note; rate 9; do { set it.cuont = "ü"; } }'
+        line, column = SCHEMA.count("\n") + 2, 1 + text.index("set it.")
+        at = f"\n  | line {line} of the input\n  | {text}\n  | {(column - 1) * ' '}^"
+        for data, refusal, begins, ends in (
+            (b"%schema\n{", "schema 1", "schema: it is not JSON\n", "\n  | line 1, column 2, line 2 of the input\n  | {\n  |  ^"),
+            (b"\xff", "input utf8", "input: it is not UTF-8", "UTF-8"),
+            (f"{SCHEMA}%sources\n{text}\n", f"compile hail 1:{column} 1", f"source hail, line 1, column {column}: ", at),
+        ):
+            with self.assertRaises(railcitron.Refused) as caught:
+                railcitron.Run(data)
+            self.assertEqual(caught.exception.line, f"refused {refusal}")
+            message = caught.exception.message
+            self.assertEqual((message[: len(begins)], message[-len(ends) :]), (begins, ends))
 
     def test_costs(self):
         sources = "%sources\nsource grow on note { when create note; rate 1; do { for other in find note in wall { say other; } } }\n"

@@ -39,11 +39,11 @@ DATA = b"""%schema
 class Library:
     """It answers each call with the next status that it was given for it, or 0, and notes what was passed."""
 
-    def __init__(self, trace=(), due=(), classes=(), told=b"refused schema 1\n", **statuses):
+    def __init__(self, trace=(), due=(), classes=(), told=b"refused schema 1", message=b"schema: it is not JSON", **statuses):
         self.trace = list(trace)
         self.due = list(due)
         self.classes = dict(classes)
-        self.told = told
+        self.told = {"bb_refusal": told, "bb_explain": message}
         self.statuses = {name: list(it) for name, it in statuses.items()}
         self.called = []
 
@@ -98,11 +98,19 @@ class Library:
         self.due.pop(0)
         return self.answer("bb_answer", run, ())
 
-    def bb_serve(self, data, size, mode, limit, floor, room, length, written):
-        line = self.told[:length]
-        room[: len(line)] = line
-        written._obj.value = len(line)
-        return 6 if len(self.told) > length else 2
+    def bb_refusal(self, *passed):
+        return self.tell("bb_refusal", *passed)
+
+    def bb_explain(self, *passed):
+        return self.tell("bb_explain", *passed)
+
+    def tell(self, name, data, size, natives, natives_len, floor, room, length, count):
+        self.called.append((name, data, size, natives, natives_len, floor))
+        if (text := self.told[name]) is None:
+            return 5
+        room[: len(text[:length])] = text[:length]
+        count._obj.value = len(text)
+        return 0
 
     def names(self):
         return [it[0] for it in self.called]
@@ -122,27 +130,30 @@ class Runs(unittest.TestCase):
         self.assertEqual(library.names()[-1], "bb_close")
 
     def test_refused(self):
+        library = Library(bb_open=[2])
         with self.assertRaises(railcitron.Refused) as caught:
-            railcitron.Run(b"", library=Library(bb_open=[2]))
-        self.assertEqual((caught.exception.line, str(caught.exception)), ("refused schema 1", "refused schema 1"))
+            railcitron.Run(b"input", natives=["weigh"], floor=-1, library=library)
+        fault = caught.exception
+        self.assertEqual((fault.line, fault.message, str(fault)), ("refused schema 1", *2 * ["schema: it is not JSON"]))
+        passed = b"input", 5, b"weigh", 5, -1
+        self.assertEqual(library.called, [(name, *passed) for name in ("bb_open", "bb_refusal", "bb_explain")])
         self.assertRaises(MemoryError, railcitron.Run, b"", library=Library(bb_open=[5]))
 
-    def test_a_reason_that_is_not_the_runs(self):
-        library = Library(bb_open=[2, 2, 2], told=b"refused rule count 8\n")
-        for natives in ([], ["other"]):
+    def test_a_reason_without_memory(self):
+        for told, wanted in (
+            ({"message": None}, ("refused schema 1", "refused schema 1")),
+            ({"told": None}, (None, "schema: it is not JSON")),
+            ({"told": None, "message": None}, (None, "the input is refused, and there is no memory to say why")),
+        ):
             with self.assertRaises(railcitron.Refused) as caught:
-                railcitron.Run(b"", natives=natives, library=library)
-            self.assertEqual(caught.exception.line, "refused rule count 8")
-        with self.assertRaises(railcitron.Refused) as caught:
-            railcitron.Run(b"", natives=["count"], library=library)
-        self.assertIsNone(caught.exception.line)
-        self.assertIn("the source count or after it", str(caught.exception))
+                railcitron.Run(b"", library=Library(bb_open=[2], **told))
+            self.assertEqual((caught.exception.line, caught.exception.message), wanted)
 
     def test_a_long_reason(self):
-        told = b"refused compile " + 5000 * b"x" + b" 1:1 1\n"
+        told, message = b"refused compile " + 5000 * b"x" + b" 1:1 1", 9000 * "ü"
         with self.assertRaises(railcitron.Refused) as caught:
-            railcitron.Run(b"", library=Library(bb_open=[2], told=told))
-        self.assertEqual(caught.exception.line, told.decode().strip())
+            railcitron.Run(b"", library=Library(bb_open=[2], told=told, message=message.encode()))
+        self.assertEqual((caught.exception.line, caught.exception.message), (told.decode(), message))
 
     def test_inputs(self):
         for data in ("%schema\n", b"%schema\n", bytearray(b"%schema\n"), memoryview(b"%schema\n")):
@@ -469,7 +480,7 @@ class Natives(unittest.TestCase):
 
 class Values(unittest.TestCase):
     def test_what_is_pickled(self):
-        faults = [railcitron.Due(7, "weigh"), railcitron.Refused("refused schema 1"), railcitron.Refused(None, "why"), railcitron.Full("full")]
+        faults = [railcitron.Due(7, "weigh"), railcitron.Refused("refused schema 1", "it is not JSON"), railcitron.Refused(None, "why"), railcitron.Full("full")]
         for fault in faults:
             for it in (pickle.loads(pickle.dumps(fault)), copy.copy(fault)):
                 self.assertEqual((type(it), str(it), it.__dict__), (type(fault), str(fault), fault.__dict__))
@@ -568,12 +579,12 @@ class Calls(unittest.TestCase):
         def library(version, *lacks):
             return SimpleNamespace(**{name: lambda: version for name in _library.CALLS if name not in lacks})
 
-        self.assertEqual(_library.with_types(library(2), "libbb.so").bb_post.argtypes, [ctypes.POINTER(_library.Handle)])
+        self.assertEqual(_library.with_types(library(3), "libbb.so").bb_post.argtypes, [ctypes.POINTER(_library.Handle)])
         for it, told in (
-            (library(1, "bb_due"), "libbb.so has version 1 of the calls, and this package needs version 2"),
-            (library(3), "libbb.so has version 3 of the calls, and this package needs version 2"),
-            (library(2, "bb_creates"), "libbb.so has version 2 of the calls, as this package, but not bb_creates"),
-            (library(2, "bb_version"), "libbb.so has calls of another kind, but not bb_version"),
+            (library(2, "bb_explain"), "libbb.so has version 2 of the calls, and this package needs version 3"),
+            (library(4), "libbb.so has version 4 of the calls, and this package needs version 3"),
+            (library(3, "bb_creates"), "libbb.so has version 3 of the calls, as this package, but not bb_creates"),
+            (library(3, "bb_version"), "libbb.so has calls of another kind, but not bb_version"),
         ):
             with self.assertRaises(OSError) as caught:
                 _library.with_types(it, "libbb.so")

@@ -11,7 +11,7 @@ extern "C" {
 #endif
 
 /* The version of the calls declared here. Check that `bb_version()`, the library's own, equals it. */
-#define BB_VERSION 2
+#define BB_VERSION 3
 
 /* Modes of `bb_serve`. BB_UNITS runs the input and writes a document of the units that are left, not the trace. */
 enum { BB_RUN = 0, BB_CHECK = 1, BB_COMPILE = 2, BB_UNITS = 3 };
@@ -26,7 +26,7 @@ enum {
     BB_ROOM = 6     /* the result is longer than the output, which is full of a prefix of it */
 };
 
-/* Returns the version of these calls. It is raised if the meaning of a call changes. */
+/* Returns the version of these calls. It is raised if a call is added, removed or changed in meaning. */
 uint32_t bb_version(void);
 
 /* ---- A whole run in one call */
@@ -40,7 +40,7 @@ uint32_t bb_version(void);
 
    - `input` points to `input_len` bytes that nobody changes during the call, `output` to `output_len` bytes that nobody
      else reads or changes during it, and `written` to an aligned `size_t`. No two of them overlap. Lengths are at most
-     PTRDIFF_MAX. No pointer is null, even if it points to no bytes; `bb_serve_nullable` accepts null.
+     PTRDIFF_MAX. No pointer is null, except as told under "NULL for no bytes".
    - Several threads may make calls at the same time: calls share nothing. But no call is made from a signal handler, or
      from the forked child of a process that has threads.
    - `malloc`, `realloc` and `free` belong to one allocator. `malloc` and `realloc` align a block to each power of two
@@ -81,10 +81,11 @@ static inline uint8_t bb_serve_nullable(const uint8_t *input, size_t input_len, 
 
    - The handle belongs to the caller, and what it points to belongs to the library, from `bb_open` to `bb_close`. A
      handle is initialized with BB_RUN_NONE, and only the library writes its fields. Of the copies of an open handle,
-     only one is used. If an open handle is lost, its run leaks.
+     only one is used. If an open handle is lost, its run leaks. A handle that has no run yet, or was closed, is told
+     from one that has; one that was never initialized is not.
    - What a call writes to, including the handle, overlaps no other argument. What it only reads may overlap, as two
-     equal literals do. The library copies the bytes that you pass. No pointer is null, even if it points to no bytes:
-     `bb_bytes` and `bb_room` replace null.
+     equal literals do. The library copies the bytes that you pass. No pointer is null, except one to no bytes or to no
+     room, for which this header passes another (below).
    - A run stays on the thread that opened it, because references to its texts are counted without locks. Runs share
      nothing, so each thread can have its own. No call is made from a signal handler, or from the forked child of a
      process that has threads. */
@@ -122,10 +123,19 @@ enum {
 /* Begins the run of an input, with no activation rated below `floor`: reports the initial units, and what the sources
    do about them. `natives` has the names of the natives, one a line, that sources may have: when such a source is to
    act, its native is due, and the host answers. Returns BB_GOING, even if nothing can be chosen, because only a turn
-   reports quiescence; or BB_FULL. If the input is refused, `bb_serve` with a limit of 0 says why, but it refuses
-   every source with `native`, because it has no natives, and so does not get to what is wrong after such a source. */
+   reports quiescence; or BB_FULL. BB_REFUSED: `bb_refusal` and `bb_explain` say why. */
 uint8_t bb_open(bb_run *run, const uint8_t *input, size_t input_len, const uint8_t *natives, size_t natives_len,
                 int64_t floor);
+
+/* Why `bb_open` refuses an input, with the same arguments. `bb_refusal` gives the line by which the program `bb` would
+   refuse it (`refused compile NAME 3:14 1`), without a line feed. `bb_explain` gives a message for people, as the
+   program writes it to standard error: what is wrong and, on lines below it, what the input has at that place. As many
+   bytes as `to_len` allows are written into `to`, and the whole length into `len`. BB_NONE: the input is not refused.
+   BB_REFUSED: the names of natives are not UTF-8. Both read the input again, and need no run. */
+uint8_t bb_refusal(const uint8_t *input, size_t input_len, const uint8_t *natives, size_t natives_len, int64_t floor,
+                   uint8_t *to, size_t to_len, size_t *len);
+uint8_t bb_explain(const uint8_t *input, size_t input_len, const uint8_t *natives, size_t natives_len, int64_t floor,
+                   uint8_t *to, size_t to_len, size_t *len);
 
 /* Makes a cycle, or reports quiescence if nothing can be chosen. Does nothing if the run is at rest or over, or a
    native is due. */
@@ -223,6 +233,12 @@ uint8_t bb_finish(bb_run *run);
    be closed too. */
 void bb_close(bb_run *run);
 
+/* ---- NULL for no bytes
+
+   The functions above take no null pointer. With this header NULL may stand for no bytes, as in
+   `bb_open(&run, input, input_len, NULL, 0, 0)`, and for no room: `bb_text(&run, unit, BB_S("name"), NULL, 0, &len)`
+   asks for the length of a text alone. No bytes are read or written at NULL, whatever length comes with it. */
+
 /* Returns a pointer that is not null: `bytes`, or, if it is null, one to no bytes. */
 static inline const uint8_t *bb_bytes(const void *bytes)
 {
@@ -230,13 +246,117 @@ static inline const uint8_t *bb_bytes(const void *bytes)
     return bytes == NULL ? &none : (const uint8_t *)bytes;
 }
 
-/* A pointer to room that is not null, even if there is no room: `bb_text(.., bb_room(NULL), 0, &len)` returns only the
-   length of a text. */
+/* A pointer to room that is not null, even if there is no room. */
 static inline uint8_t *bb_room(void *room)
 {
     static uint8_t none = 0;
     return room == NULL ? &none : (uint8_t *)room;
 }
+
+/* The same for room for units. */
+static inline uint64_t *bb_unit_room(uint64_t *room)
+{
+    static uint64_t none = 0;
+    return room == NULL ? &none : room;
+}
+
+/* How long what is at a pointer is: nothing is at NULL. */
+static inline size_t bb_len(const void *at, size_t len)
+{
+    return at == NULL ? 0 : len;
+}
+
+static inline uint8_t bb_open_or_null(bb_run *run, const uint8_t *input, size_t input_len, const uint8_t *natives,
+                                      size_t natives_len, int64_t floor)
+{
+    return bb_open(run, bb_bytes(input), bb_len(input, input_len), bb_bytes(natives), bb_len(natives, natives_len),
+                   floor);
+}
+
+static inline uint8_t bb_refusal_or_null(const uint8_t *input, size_t input_len, const uint8_t *natives,
+                                         size_t natives_len, int64_t floor, uint8_t *to, size_t to_len, size_t *len)
+{
+    return bb_refusal(bb_bytes(input), bb_len(input, input_len), bb_bytes(natives), bb_len(natives, natives_len),
+                      floor, bb_room(to), bb_len(to, to_len), len);
+}
+
+static inline uint8_t bb_explain_or_null(const uint8_t *input, size_t input_len, const uint8_t *natives,
+                                         size_t natives_len, int64_t floor, uint8_t *to, size_t to_len, size_t *len)
+{
+    return bb_explain(bb_bytes(input), bb_len(input, input_len), bb_bytes(natives), bb_len(natives, natives_len),
+                      floor, bb_room(to), bb_len(to, to_len), len);
+}
+
+static inline uint8_t bb_ask_text_or_null(bb_run *run, uint64_t unit, const uint8_t *slot, size_t slot_len,
+                                          const uint8_t *value, size_t value_len)
+{
+    return bb_ask_text(run, unit, bb_bytes(slot), bb_len(slot, slot_len), bb_bytes(value), bb_len(value, value_len));
+}
+
+static inline uint8_t bb_ask_say_or_null(bb_run *run, const uint8_t *text, size_t text_len)
+{
+    return bb_ask_say(run, bb_bytes(text), bb_len(text, text_len));
+}
+
+static inline uint8_t bb_due_or_null(bb_run *run, uint64_t *unit, uint8_t *to, size_t to_len, size_t *len)
+{
+    return bb_due(run, unit, bb_room(to), bb_len(to, to_len), len);
+}
+
+static inline uint8_t bb_class_or_null(bb_run *run, uint64_t unit, uint8_t *to, size_t to_len, size_t *len)
+{
+    return bb_class(run, unit, bb_room(to), bb_len(to, to_len), len);
+}
+
+static inline uint8_t bb_text_or_null(bb_run *run, uint64_t unit, const uint8_t *slot, size_t slot_len, uint8_t *to,
+                                      size_t to_len, size_t *len)
+{
+    return bb_text(run, unit, bb_bytes(slot), bb_len(slot, slot_len), bb_room(to), bb_len(to, to_len), len);
+}
+
+static inline uint8_t bb_label_or_null(bb_run *run, uint64_t unit, const uint8_t *slot, size_t slot_len, uint8_t *to,
+                                       size_t to_len, size_t *len)
+{
+    return bb_label(run, unit, bb_bytes(slot), bb_len(slot, slot_len), bb_room(to), bb_len(to, to_len), len);
+}
+
+static inline uint8_t bb_links_or_null(bb_run *run, uint64_t unit, const uint8_t *slot, size_t slot_len, uint64_t *to,
+                                       size_t to_len, size_t *count)
+{
+    return bb_links(run, unit, bb_bytes(slot), bb_len(slot, slot_len), bb_unit_room(to), bb_len(to, to_len), count);
+}
+
+static inline uint8_t bb_units_or_null(bb_run *run, const uint8_t *class_name, size_t class_name_len, uint64_t *to,
+                                       size_t to_len, size_t *count)
+{
+    return bb_units(run, bb_bytes(class_name), bb_len(class_name, class_name_len), bb_unit_room(to),
+                    bb_len(to, to_len), count);
+}
+
+static inline uint8_t bb_document_or_null(bb_run *run, uint8_t *to, size_t to_len, size_t *len)
+{
+    return bb_document(run, bb_room(to), bb_len(to, to_len), len);
+}
+
+static inline uint8_t bb_read_or_null(bb_run *run, uint8_t *to, size_t to_len, size_t *len)
+{
+    return bb_read(run, bb_room(to), bb_len(to, to_len), len);
+}
+
+#define bb_open(...) bb_open_or_null(__VA_ARGS__)
+#define bb_refusal(...) bb_refusal_or_null(__VA_ARGS__)
+#define bb_explain(...) bb_explain_or_null(__VA_ARGS__)
+#define bb_ask_text(...) bb_ask_text_or_null(__VA_ARGS__)
+#define bb_ask_say(...) bb_ask_say_or_null(__VA_ARGS__)
+#define bb_due(...) bb_due_or_null(__VA_ARGS__)
+#define bb_class(...) bb_class_or_null(__VA_ARGS__)
+#define bb_text(...) bb_text_or_null(__VA_ARGS__)
+#define bb_label(...) bb_label_or_null(__VA_ARGS__)
+#define bb_links(...) bb_links_or_null(__VA_ARGS__)
+#define bb_units(...) bb_units_or_null(__VA_ARGS__)
+#define bb_document(...) bb_document_or_null(__VA_ARGS__)
+#define bb_read(...) bb_read_or_null(__VA_ARGS__)
+#define bb_serve(...) bb_serve_nullable(__VA_ARGS__)
 
 #ifdef __cplusplus
 }

@@ -9,8 +9,8 @@ use crate::room::Room;
 use bb_main::{Mode, NativeSource, ProgramNative, serve};
 use std::alloc::Global;
 
-// The version of these calls. It is increased when the meaning of a call changes.
-const VERSION: u32 = 2;
+// The version of these calls. It is increased when a call is added, removed or changed in meaning.
+const VERSION: u32 = 3;
 
 // The status of a refused input, and of a number that is not a mode.
 const REFUSED: u8 = 2;

@@ -2,6 +2,8 @@
 pub mod Sitting
 -- the run that an input begins
 pub mod Opening
+-- why an input is refused
+pub mod Refused
 -- what moves do to a held run
 pub mod Moving
 -- what a host sees of it

@@ -6,7 +6,8 @@ ghost use Rattle.bb_c_run.specs.Moving.{Answers, Ends, Moves, Posts, did_nothing
 ghost use Rattle.bb_c_run.specs.Moves.{advance, one_turn};
 ghost use Rattle.bb_c_run.specs.Opening.{Begins, meaning_of};
 ghost use Rattle.bb_c_run.specs.Sitting.{stands_now, unread};
-ghost use Rattle.bb_shell.specs.Meaning.{Meaning};
+ghost use Rattle.bb_basis.specs.Results.{Gives};
+ghost use Rattle.bb_shell.specs.Meaning.{Meaning, meaning};
 
 use crate::no_native::{NoNative, no_natives};
 use crate::stands::{Stands, stands_by};
@@ -37,8 +38,8 @@ pub enum OpenFault {
     Memory,
 }
 
-// Lists the names of a text, one on each line.
-fn names_in(alloc: Global, natives: &str) -> Result<Vec<Text>, AllocError>
+/// Lists the names of a text, one on each line.
+pub(crate) fn names_in(alloc: Global, natives: &str) -> Result<Vec<Text>, AllocError>
     ensures { IfOk result (λ v. v.items ≡ lines natives.now) }
 {
     let mut names = Vec::new(alloc);
@@ -46,6 +47,26 @@ fn names_in(alloc: Global, natives: &str) -> Result<Vec<Text>, AllocError>
         names.push(Text::from_str(alloc, name)?)?;
     }
     Ok(names)
+}
+
+/// Makes the shell of the sections of an input whose host answers for natives with these names.
+pub(crate) fn hosted(
+    alloc: Global,
+    sections: Sections<'_>,
+    outside: Vec<Text>,
+    floor: i64,
+) -> Result<HostedShell<NoNative>, InputFault>
+    ensures means { let t = sections.entry in Gives InputFault.Memory (λ s. record { plan = s.plan; board = s.board }) result
+        (meaning outside.items t.schema.now t.units.now t.sources.now t.bundle.now floor) }
+    ensures natives { IfOk result (λ s. map ⟦<NoNative as NativeSource>⟧.meaning s.roster.natives.items ≡ []) }
+{
+    let texts = Texts {
+        schema: sections.schema,
+        units: sections.units,
+        sources: sections.sources,
+        bundle: sections.bundle,
+    };
+    HostedShell::of_texts(alloc, &texts, no_natives(alloc), outside, floor)
 }
 
 // Makes the shell of an input whose host answers for natives with these names.
@@ -63,13 +84,7 @@ fn shell_of(
     let Ok(sections) = Sections::of_bytes(input) else {
         return Err(OpenFault::Refused);
     };
-    let texts = Texts {
-        schema: sections.schema,
-        units: sections.units,
-        sources: sections.sources,
-        bundle: sections.bundle,
-    };
-    match HostedShell::of_texts(alloc, &texts, no_natives(alloc), outside, floor) {
+    match hosted(alloc, sections, outside, floor) {
         Ok(shell) => Ok(shell),
         Err(InputFault::Memory) => Err(OpenFault::Memory),
         Err(_) => Err(OpenFault::Refused),

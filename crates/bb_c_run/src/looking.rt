@@ -13,7 +13,7 @@ use bb_shell::{Plan, Value, View};
 use std::alloc::Global;
 
 /// Copies as many of some items as `room` has places for, and returns the number of items.
-pub(crate) fn fill<T: Copy>(found: &[T], room: &mut [T]) -> usize
+pub fn fill<T: Copy>(found: &[T], room: &mut [T]) -> usize
     ensures count { result ≡ length found.now }
     ensures filled { room.new ≡ filled found.now room.old }
 {

@@ -1,7 +1,8 @@
 //! Tests of held runs that no case can make: moves, and reading the trace in pieces.
 
-use bb_c_run::{Held, OpenFault, Stands};
+use bb_c_run::{Held, OpenFault, Stands, why_refused};
 use bb_shell::{Ask, Text, Value};
+use std::alloc::Global;
 use std::test::Fail;
 
 const INPUT: &str = "%schema\n\
@@ -96,6 +97,28 @@ fn an_input_that_is_refused(rt: HostRuntime) -> Result<(), Fail> {
             Ok(())
         }
     }
+}
+
+// Returns whether an input is refused by this line, and the message is this.
+fn is_refused_by(alloc: Global, input: &[u8], line: &str, message: &str) -> Result<bool, Fail> {
+    let Some(refusal) = why_refused(alloc, input, "weigh", 0)? else {
+        return Ok(false);
+    };
+    Ok(refusal.line.as_str() == line && refusal.message.as_str() == message)
+}
+
+#[test]
+fn why_an_input_is_refused(rt: HostRuntime) -> Result<(), Fail> {
+    let alloc = rt.alloc();
+    let message =
+        "schema: it is not JSON\n  | line 1, column 2, line 2 of the input\n  | {\n  |  ^";
+    assert!(rt; is_refused_by(alloc, b"%schema\n{", "refused schema 1", message)?);
+    let message = "input: it is not UTF-8";
+    assert!(rt; is_refused_by(alloc, b"\xff", "refused input utf8", message)?);
+    let message = "source price: there is no native of this name";
+    assert!(rt; is_refused_by(alloc, PRICED.as_bytes(), "refused rule price 8", message)?);
+    assert!(rt; why_refused(alloc, PRICED.as_bytes(), "weigh\nprice", 0)?.is_none());
+    Ok(())
 }
 
 const PRICED: &str = "%schema\n\
