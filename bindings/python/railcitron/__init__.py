@@ -28,11 +28,12 @@ from ._library import load
 from ._looks import Ending
 from ._run import Native, Run
 from ._schema import Schema
-from ._values import Interval, Label, Value
+from ._values import Activation, Interval, Label, Value
 
 __version__ = "0.9.0"
 
 __all__ = [
+    "Activation",
     "Asks",
     "Due",
     "Ending",

@@ -12,7 +12,7 @@ from ._asks import as_bytes, as_unit, within
 from ._faults import Misuse
 from ._held import Held
 from ._schema import Slot
-from ._values import Interval, Label, Value
+from ._values import Activation, Interval, Label, Value
 
 Ending = Literal["quiescence", "limit", "full"]
 
@@ -114,6 +114,39 @@ class Looks(Held):
         if (found := self._units("bb_units", *as_bytes(class_name))) is None:
             raise KeyError(class_name)
         return found
+
+    def members(self, space: str) -> list[int]:
+        """Returns the numbers of the units in a space, ascending.
+
+        Raises `KeyError` if there is no such space, or the run was finished; `OutOfMemory`; and `Misuse` if there is no run.
+        """
+        if (found := self._units("bb_members", *as_bytes(space))) is None:
+            raise KeyError(space)
+        return found
+
+    def pending(self) -> list[Activation]:
+        """Returns the pending activations, by ascending number.
+
+        Raises `OutOfMemory`, and `Misuse` if there is no run or it was finished.
+        """
+        if (found := self._units("bb_pending")) is None:
+            raise Misuse("the run was finished")
+        return [it for it in map(self._activation, found) if it is not None]
+
+    @property
+    def choice(self) -> Activation | None:
+        """The activation that the next cycle executes, or None if none can be chosen, or the run was finished. It is not known
+        after `OutOfMemory` of a move. Raises `Misuse` if there is no run."""
+        number = ctypes.c_uint64()
+        return self._activation(number.value) if self._looked("bb_choice", ctypes.byref(number)) else None
+
+    def _activation(self, number: int) -> Activation | None:
+        """The activation with a number, if it is pending."""
+        unit, base, rating = ctypes.c_uint64(), ctypes.c_int64(), ctypes.c_int64()
+        passed = (number, ctypes.byref(unit), ctypes.byref(base), ctypes.byref(rating))
+        if (source := self._text("bb_activation", *passed)) is None:
+            return None
+        return Activation(number, source, unit.value or None, base.value, rating.value)
 
     def __iter__(self) -> Iterator[int]:
         """Iterates over the numbers of all units, ascending, as they are now. Raises `OutOfMemory`, and `Misuse` if there is

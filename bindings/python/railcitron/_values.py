@@ -1,4 +1,4 @@
-"""What an ordinary slot holds, in Python."""
+"""What an ordinary slot holds, and what the agenda has, in Python."""
 
 from __future__ import annotations
 
@@ -33,6 +33,18 @@ class Interval(NamedTuple):
 
     low: int
     high: int
+
+
+class Activation(NamedTuple):
+    """A pending activation: its number, its source's name, the unit of its event, or None if it has none, its base, and its
+    rating, the base plus the weights of the foci that match. A rating that has no room in 64 bits is the greatest or the
+    least number that has."""
+
+    number: int
+    source: str
+    unit: int | None
+    base: int
+    rating: int
 
 
 Value = int | bool | str | Label | Interval

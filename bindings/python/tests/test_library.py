@@ -3,6 +3,7 @@
     RAILCITRON_LIBRARY=libbb.so python3 bindings/python/tests/test_library.py
 """
 
+import ctypes
 import signal
 import sys
 import unittest
@@ -211,6 +212,54 @@ class Library(unittest.TestCase):
             self.assertIsNone(run.class_of(one))
             self.assertRaises(KeyError, run.get, one, "count")
         self.assertRaises(railcitron.Misuse, run.get, one, "count")
+
+    def test_the_agenda(self):
+        """What waits by two sources, one of them rated below the floor until a focus comes."""
+        sources = """%sources
+source hail on note { when create note; rate 100; do { say "hail"; } }
+source tidy on note { when create note; rate 10; do { with n = it as note { leave n wall; } } }
+"""
+        with railcitron.Run(SCHEMA + sources, floor=50) as run:
+            self.assertEqual((run.pending(), run.choice), ([], None))
+            with run.post() as asks:
+                one, two = asks.new("note"), asks.new("note")
+                asks.enter(two, "wall")
+                asks.enter(one, "wall")
+            wanted = [(1, "hail", 1, 100, 100), (2, "tidy", 1, 10, 10), (3, "hail", 2, 100, 100), (4, "tidy", 2, 10, 10)]
+            self.assertEqual(([tuple(it) for it in run.pending()], run.choice), (wanted, wanted[0]))
+            self.assertEqual((run.members("wall"), run.members("wall")), ([1, 2], [1, 2]))
+            self.assertRaises(KeyError, run.members, "nowhere")
+            self.assertTrue(run.turn())
+            self.assertEqual(([it.number for it in run.pending()], run.choice), ([2, 3, 4], wanted[2]))
+            with run.post() as asks:
+                focus = asks.new("focus")
+                asks.set(focus, "source", "tidy")
+                asks.set(focus, "weight", 1000)
+                asks.set(focus, "active", True)
+            self.assertEqual([(it.number, it.base, it.rating) for it in run.pending()], [(2, 10, 1010), (3, 100, 100), (4, 10, 1010)])
+            self.assertEqual(run.choice, (2, "tidy", 1, 10, 1010))
+            self.assertTrue(run.turn())
+            self.assertEqual(run.members("wall"), [2])
+            with run.post() as asks:
+                asks.delete(focus)
+            self.assertTrue(run.turn())
+            self.assertEqual(([tuple(it) for it in run.pending()], run.choice), ([wanted[3]], None))
+            run.finish()
+            self.assertIsNone(run.choice)
+            self.assertRaises(railcitron.Misuse, run.pending)
+
+    def test_kinds_of_slots(self):
+        with railcitron.Run(DATA) as run:
+            with run.post() as asks:
+                asks.new("note")
+
+            def kind(unit, slot):
+                told = ctypes.create_string_buffer(1)
+                return run._call("bb_kind", unit, slot, len(slot), told), told.raw[0]
+
+            slots = [b"count", b"text", b"seen", b"hue", b"span", b"next"]
+            self.assertEqual([kind(1, it) for it in slots], [(0, it) for it in range(6)])
+            self.assertEqual([kind(1, b"size"), kind(2, b"count"), kind(1, b"\xff")], [(1, 0), (1, 0), (2, 0)])
 
     def test_where_it_came_back_shows_nowhere(self):
         notes = ",".join(f'{{"name":"n{it}","class":"note"}}' for it in range(20))

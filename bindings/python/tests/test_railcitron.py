@@ -44,6 +44,7 @@ class Library:
         self.due = list(due)
         self.classes = dict(classes)
         self.told = {"bb_refusal": told, "bb_explain": message}
+        self.waiting = {}
         self.statuses = {name: list(it) for name, it in statuses.items()}
         self.called = []
 
@@ -92,6 +93,30 @@ class Library:
         units = [unit for unit, it in self.classes.items() if it == name.decode()]
         found[: len(units)] = units
         count._obj.value = len(units)
+        return 0
+
+    def bb_members(self, run, name, name_len, found, size, count):
+        if name != b"tray":
+            return 1
+        return self.bb_units(run, b"job", 3, found, size, count)
+
+    def bb_pending(self, run, found, size, count):
+        found[: len(self.waiting)] = [*self.waiting]
+        count._obj.value = len(self.waiting)
+        return 0
+
+    def bb_activation(self, run, number, unit, base, rating, room, size, length):
+        if number not in self.waiting:
+            return 1
+        source, unit._obj.value, base._obj.value, rating._obj.value = self.waiting[number]
+        room[: len(source)] = source
+        length._obj.value = len(source)
+        return 0
+
+    def bb_choice(self, run, number):
+        if not self.waiting:
+            return 1
+        number._obj.value = max(self.waiting, key=lambda it: self.waiting[it][3])
         return 0
 
     def bb_answer(self, run):
@@ -233,6 +258,17 @@ class Runs(unittest.TestCase):
             self.assertEqual([it in run for it in (1, 2, 5, -1, 1 << 64, "1")], [True, True, False, False, False, False])
             run.finish()
             self.assertRaises(railcitron.Misuse, iter, run)
+
+
+class Agenda(unittest.TestCase):
+    def test_what_waits(self):
+        library = Library(classes={1: "job", 4: "task", 2: "job"})
+        with railcitron.Run(DATA, library=library) as run:
+            self.assertEqual((run.pending(), run.choice, run.members("tray")), ([], None, [1, 2]))
+            self.assertRaises(KeyError, run.members, "tree")
+            library.waiting = {3: (b"hail", 7, -5, 12), 9: (b"greet", 0, 1, 13)}
+            hail, greet = railcitron.Activation(3, "hail", 7, -5, 12), railcitron.Activation(9, "greet", None, 1, 13)
+            self.assertEqual((run.pending(), run.choice), ([hail, greet], greet))
 
 
 class Posts(unittest.TestCase):

@@ -201,10 +201,36 @@ uint8_t bb_label(bb_run *run, uint64_t unit, const uint8_t *slot, size_t slot_le
 uint8_t bb_links(bb_run *run, uint64_t unit, const uint8_t *slot, size_t slot_len, uint64_t *to, size_t to_len,
                  size_t *count);
 
+/* What a slot holds. */
+enum {
+    BB_KIND_INT = 0,
+    BB_KIND_TEXT = 1,
+    BB_KIND_BOOL = 2,
+    BB_KIND_LABEL = 3,
+    BB_KIND_INTERVAL = 4,
+    BB_KIND_LINK = 5    /* it is a link slot: `bb_links` has its partners */
+};
+
+/* The kind of a slot of a unit, so that one look reads it. BB_NONE: there is no such unit or slot. */
+uint8_t bb_kind(bb_run *run, uint64_t unit, const uint8_t *slot, size_t slot_len, uint8_t *kind);
+
 /* The units of a class and of the classes below it, in ascending order: as many as `to_len` allows are written into
    `to`, and their whole number into `count`. BB_NONE: there is no such class. */
 uint8_t bb_units(bb_run *run, const uint8_t *class_name, size_t class_name_len, uint64_t *to, size_t to_len,
                  size_t *count);
+
+/* The units in a space, as `bb_units` has those of a class. BB_NONE: there is no such space. */
+uint8_t bb_members(bb_run *run, const uint8_t *space, size_t space_len, uint64_t *to, size_t to_len, size_t *count);
+
+/* The agenda. `bb_pending` has the numbers of the pending activations, in ascending order; `bb_activation` of one of
+   them the unit of its event (0: it has none), its base, its rating, which is the base plus the weights of the foci
+   that match, and the name of its source; `bb_choice` the number of the one that the next cycle executes. A rating that
+   has no room in 64 bits is INT64_MAX or INT64_MIN. BB_NONE: the activation is not pending, nothing can be chosen, or
+   the run was finished. What is chosen is not known after BB_MEMORY of a move. */
+uint8_t bb_pending(bb_run *run, uint64_t *to, size_t to_len, size_t *count);
+uint8_t bb_activation(bb_run *run, uint64_t number, uint64_t *unit, int64_t *base, int64_t *rating, uint8_t *to,
+                      size_t to_len, size_t *len);
+uint8_t bb_choice(bb_run *run, uint64_t *number);
 
 /* The blackboard as a document of initial units, which an input can have below its line `%units`: as many bytes as
    `to_len` allows are written into `to`, and the whole length into `len`. The units are named by new numbers there,
@@ -333,6 +359,23 @@ static inline uint8_t bb_units_or_null(bb_run *run, const uint8_t *class_name, s
                     bb_len(to, to_len), count);
 }
 
+static inline uint8_t bb_members_or_null(bb_run *run, const uint8_t *space, size_t space_len, uint64_t *to,
+                                         size_t to_len, size_t *count)
+{
+    return bb_members(run, bb_bytes(space), bb_len(space, space_len), bb_unit_room(to), bb_len(to, to_len), count);
+}
+
+static inline uint8_t bb_pending_or_null(bb_run *run, uint64_t *to, size_t to_len, size_t *count)
+{
+    return bb_pending(run, bb_unit_room(to), bb_len(to, to_len), count);
+}
+
+static inline uint8_t bb_activation_or_null(bb_run *run, uint64_t number, uint64_t *unit, int64_t *base,
+                                            int64_t *rating, uint8_t *to, size_t to_len, size_t *len)
+{
+    return bb_activation(run, number, unit, base, rating, bb_room(to), bb_len(to, to_len), len);
+}
+
 static inline uint8_t bb_document_or_null(bb_run *run, uint8_t *to, size_t to_len, size_t *len)
 {
     return bb_document(run, bb_room(to), bb_len(to, to_len), len);
@@ -354,6 +397,9 @@ static inline uint8_t bb_read_or_null(bb_run *run, uint8_t *to, size_t to_len, s
 #define bb_label(...) bb_label_or_null(__VA_ARGS__)
 #define bb_links(...) bb_links_or_null(__VA_ARGS__)
 #define bb_units(...) bb_units_or_null(__VA_ARGS__)
+#define bb_members(...) bb_members_or_null(__VA_ARGS__)
+#define bb_pending(...) bb_pending_or_null(__VA_ARGS__)
+#define bb_activation(...) bb_activation_or_null(__VA_ARGS__)
 #define bb_document(...) bb_document_or_null(__VA_ARGS__)
 #define bb_read(...) bb_read_or_null(__VA_ARGS__)
 #define bb_serve(...) bb_serve_nullable(__VA_ARGS__)

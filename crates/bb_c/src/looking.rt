@@ -2,11 +2,12 @@
 
 ghost use Rattle.std.specs.Prelude.{◌≡◌, ◌⊎◌, if◌then◌else◌};
 ghost use Rattle.bb_c_run.specs.Looking.{interval_of, number_of, text_of, truth_of};
-ghost use Rattle.bb_c.specs.Looked.{Fills, IfText, Looks, class_of, label_name_of, of_value, partners_of};
+ghost use Rattle.bb_c.specs.Looked.{Fills, IfText, Looks, class_of, kind_number, kind_of, label_name_of, of_value};
+ghost use Rattle.bb_c.specs.Looked.{partners_of};
 ghost use Rattle.bb_c.specs.declared.status.TheConstants.{MEMORY};
 
 use crate::run::Run;
-use crate::status::{MEMORY, MISUSE, NONE, OK, REFUSED, given};
+use crate::status::{MEMORY, MISUSE, NONE, OK, REFUSED, given, kind_number};
 use std::alloc::Global;
 use std::str;
 
@@ -173,6 +174,27 @@ pub extern "C" fn bb_class(
     let found = held.class(unit, to);
     run.put(held);
     given(found, len)
+}
+
+/// Writes the number of the kind of a slot of a unit: 0 number, 1 text, 2 truth value, 3 label, 4 interval, 5 links.
+/// Returns 1 if there is no such unit or slot.
+#[unsafe(no_mangle)]
+pub extern "C" fn bb_kind(alloc: Global, run: &mut Run, unit: u64, slot: &[u8], kind: &mut u8) -> u8
+    ensures told { IfText slot.now (Looks run.old.sitting (kind_of unit slot.now)
+        (λ k. kind.new ≡ kind_number k)
+        (kind.new ≡ kind.old) result)
+        (kind.new ≡ kind.old) result }
+    ensures kept { run.new.sitting ≡ run.old.sitting }
+{
+    let Ok(slot) = str::from_utf8(slot) else {
+        return REFUSED;
+    };
+    let Some(held) = run.take(alloc) else {
+        return MISUSE;
+    };
+    let found = held.kind(unit, slot);
+    run.put(held);
+    given(found.map(kind_number), kind)
 }
 
 /// Writes as many partners of a unit by a link slot as `to` has room for, in order of addition, and their number. An

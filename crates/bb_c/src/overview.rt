@@ -1,8 +1,9 @@
-//! The calls that look up something of a run as a whole: what is due, the units of a class, the whole blackboard, and
-//! what its sources can cost.
+//! The calls that look up something of a run as a whole: what is due, the units of a class and of a space, the whole
+//! blackboard, and what its sources can cost.
 
 ghost use Rattle.std.specs.Prelude.{◌≡◌, ◌⊎◌, if◌then◌else◌};
-ghost use Rattle.bb_c.specs.Looked.{Fills, IfText, Looks, creates_of, document_of, due_of, most_steps_of, units_of};
+ghost use Rattle.bb_c.specs.Looked.{Fills, IfText, Looks, creates_of, document_of, due_of, members_of, most_steps_of};
+ghost use Rattle.bb_c.specs.Looked.{units_of};
 ghost use Rattle.bb_c.specs.declared.status.TheConstants.{MEMORY};
 
 use crate::run::Run;
@@ -65,6 +66,37 @@ pub extern "C" fn bb_units(
         return MISUSE;
     };
     let found = held.units(class, to);
+    run.put(held);
+    match found {
+        Ok(found) => given(found, count),
+        Err(_) => MEMORY,
+    }
+}
+
+/// Writes as many units in a space as `to` has room for, ascending, and their number. Returns 1 if there is no such
+/// space, 2 if the name is not UTF-8, 5 if memory ran out.
+#[unsafe(no_mangle)]
+pub extern "C" fn bb_members(
+    alloc: Global,
+    run: &mut Run,
+    space: &[u8],
+    to: &mut [u64],
+    count: &mut usize,
+) -> u8
+    ensures told { IfText space.now (Looks run.old.sitting (members_of space.now)
+        (Fills to.old to.new count.new)
+        ((to.new ≡ to.old) × (count.new ≡ count.old)) result
+        ⊎ (((to.new ≡ to.old) × (count.new ≡ count.old)) × (result ≡ MEMORY)))
+        ((to.new ≡ to.old) × (count.new ≡ count.old)) result }
+    ensures kept { run.new.sitting ≡ run.old.sitting }
+{
+    let Ok(space) = str::from_utf8(space) else {
+        return REFUSED;
+    };
+    let Some(held) = run.take(alloc) else {
+        return MISUSE;
+    };
+    let found = held.members(space, to);
     run.put(held);
     match found {
         Ok(found) => given(found, count),

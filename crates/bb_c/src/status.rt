@@ -1,10 +1,10 @@
-//! The statuses of the calls on a held run, with the names of `include/bb.h`.
+//! The statuses of the calls on a held run, and the numbers of kinds of slots, with the names of `include/bb.h`.
 
 ghost use Rattle.std.specs.Prelude.{◌≡◌};
 ghost use Rattle.bb_c.specs.Called.{status_of};
-ghost use Rattle.bb_c.specs.Looked.{Comes};
+ghost use Rattle.bb_c.specs.Looked.{Comes, kind_number};
 
-use bb_c_run::Stands;
+use bb_c_run::{SlotKind, Stands};
 
 /// The call was made. For a move: the run is at rest.
 pub(crate) const OK: u8 = 0;
@@ -42,6 +42,38 @@ pub(crate) fn status_of(stands: Stands) -> u8
         Stands::Memory => MEMORY,
         Stands::Finished => MISUSE,
         Stands::Misused => MISUSE,
+    }
+}
+
+/// A slot that holds a number.
+pub(crate) const KIND_INT: u8 = 0;
+
+/// A slot that holds a text.
+pub(crate) const KIND_TEXT: u8 = 1;
+
+/// A slot that holds a truth value.
+pub(crate) const KIND_BOOL: u8 = 2;
+
+/// A slot that holds a label.
+pub(crate) const KIND_LABEL: u8 = 3;
+
+/// A slot that holds an interval.
+pub(crate) const KIND_INTERVAL: u8 = 4;
+
+/// A link slot.
+pub(crate) const KIND_LINK: u8 = 5;
+
+/// Returns the number of a kind of slot.
+pub(crate) fn kind_number(kind: SlotKind) -> u8
+    ensures { result ≡ kind_number kind }
+{
+    match kind {
+        SlotKind::Int => KIND_INT,
+        SlotKind::Text => KIND_TEXT,
+        SlotKind::Bool => KIND_BOOL,
+        SlotKind::Label => KIND_LABEL,
+        SlotKind::Interval => KIND_INTERVAL,
+        SlotKind::Link => KIND_LINK,
     }
 }
 

@@ -1,3 +1,4 @@
+pub mod AgendaLemmas
 pub mod AskLemmas
 pub mod EndLemmas
 pub mod Laws

@@ -8,6 +8,8 @@ pub mod Refused
 pub mod Moving
 -- what a host sees of it
 pub mod Looking
+-- what a host sees of its agenda
+pub mod Waiting
 -- what its sources can cost
 pub mod Costs
 -- of bb_shell: what an input means

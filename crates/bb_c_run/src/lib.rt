@@ -2,25 +2,29 @@
 //! until they are posted.
 //!
 //! - In: the bytes of an input, moves, asks, and buffers to read into.
-//! - Out: the state of the run after each move; its trace; and what is looked up: the blackboard, the native that is
-//!   due, and what its sources can cost. `why_refused`: why an input is refused.
+//! - Out: the state of the run after each move; its trace; and what is looked up: the blackboard, the agenda, the native
+//!   that is due, and what its sources can cost. `why_refused`: why an input is refused.
 //! - Callers rely on: what is read is what the moves emit (`bb_run_held/specs/Moves`), in order, every byte once.
 //! - Family: bb_run_held is the run, bb_c has the calls for C.
 //! - Tests: bb_main_tests.
 #![tactic(auto)]
 
+mod agenda;
 mod costs;
 mod held;
 mod looking;
 mod no_native;
 mod refusal;
+mod slot_kind;
 mod stands;
 mod trace;
 
+pub use agenda::Waits;
 pub use bb_run_held::Pause;
 pub use bb_shell::{Ask, Memory, Text, Value};
 pub use held::{Held, OpenFault};
 pub use looking::fill;
 pub use no_native::NoNative;
 pub use refusal::{Refusal, why_refused};
+pub use slot_kind::SlotKind;
 pub use stands::Stands;

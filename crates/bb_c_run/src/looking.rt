@@ -2,13 +2,15 @@
 
 ghost use Rattle.std.specs.Prelude.{◌≡◌, IfErr, IfOk, filter, length, option_and_then, option_map};
 ghost use Rattle.bb_board_document.specs.Document.{units_text};
-ghost use Rattle.bb_c_run.specs.Looking.{class_in, due_by, filled, filled_if, interval_of, is_of, label_name_of};
-ghost use Rattle.bb_c_run.specs.Looking.{number_of, partners_in, slot_in, text_of, truth_of, units_of, value_in};
+ghost use Rattle.bb_c_run.specs.Looking.{class_in, due_by, filled, filled_if, interval_of, is_in, is_of, kind_in, kind_of};
+ghost use Rattle.bb_c_run.specs.Looking.{label_name_of, members_of, number_of, partners_in, slot_in, text_of, truth_of};
+ghost use Rattle.bb_c_run.specs.Looking.{units_of, value_in};
 
+use crate::slot_kind::SlotKind;
 use bb_basis::Memory;
 use bb_board_document::units_document;
 use bb_run_held::Pause;
-use bb_schema::{ClassId, SlotId, UnitId};
+use bb_schema::{ClassId, SlotId, SpaceId, UnitId};
 use bb_shell::{Plan, Value, View};
 use std::alloc::Global;
 
@@ -104,6 +106,30 @@ pub(crate) fn label_name<'v>(view: &'v View<'_>, unit: UnitId, slot: &str) -> Op
     }
 }
 
+// Returns the kind of what an ordinary slot holds.
+fn kind_of(value: &Value) -> SlotKind
+    ensures { result ≡ kind_of value.now }
+{
+    match value {
+        Value::Int(_) => SlotKind::Int,
+        Value::Text(_) => SlotKind::Text,
+        Value::Bool(_) => SlotKind::Bool,
+        Value::Label(_, _) => SlotKind::Label,
+        Value::Interval(_, _) => SlotKind::Interval,
+    }
+}
+
+/// Returns the kind of a slot of a unit, if there is such a unit and slot.
+pub(crate) fn kind(view: &View<'_>, unit: UnitId, slot: &str) -> Option<SlotKind>
+    ensures { result ≡ kind_in view.now unit slot.now }
+{
+    let slot = slot_of(view, unit, slot)?;
+    if !view.has(unit, slot) {
+        return Some(SlotKind::Link);
+    }
+    Some(kind_of(view.get(unit, slot)))
+}
+
 /// Copies as many partners of a unit by a slot as `room` has places for, in order of addition, and returns their
 /// number; `None` if there is no such unit or slot. `Memory`: memory ran out.
 pub(crate) fn partners(
@@ -153,6 +179,39 @@ pub(crate) fn units(
     };
     let mut found = view.units()?;
     keep_those_of(view, class, &mut found);
+    Ok(Some(fill(found.as_slice(), room)))
+}
+
+// Returns whether a unit is in a space.
+fn is_in(view: &View<'_>, space: SpaceId, unit: UnitId) -> bool
+    ensures { result ≡ is_in view.now space unit }
+{
+    view.spaces_of(unit).iter().any(|it| *it == space)
+}
+
+// Keeps the units that are in a space.
+fn keep_those_in(view: &View<'_>, space: SpaceId, units: &mut Vec<UnitId>)
+    ensures { units.new.items ≡ filter (is_in view.now space) units.old.items }
+{
+    units.retain(|unit| is_in(view, space, *unit));
+}
+
+/// Copies as many units of a space as `room` has places for, ascending, and returns their number; `None` if there is no
+/// such space. `Memory`: memory ran out.
+pub(crate) fn members(
+    view: &View<'_>,
+    space: &str,
+    room: &mut [UnitId],
+) -> Result<Option<usize>, Memory>
+    ensures count { IfOk result (λ n. n ≡ option_map length (members_of view.now space.now)) }
+    ensures filled { IfOk result (λ _. room.new ≡ filled_if (members_of view.now space.now) room.old) }
+    ensures err { IfErr result (λ _. room.new ≡ room.old) }
+{
+    let Some(space) = view.schema().space(space) else {
+        return Ok(None);
+    };
+    let mut found = view.units()?;
+    keep_those_in(view, space, &mut found);
     Ok(Some(fill(found.as_slice(), room)))
 }
 

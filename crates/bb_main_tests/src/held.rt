@@ -1,6 +1,6 @@
 //! Tests of held runs that no case can make: moves, and reading the trace in pieces.
 
-use bb_c_run::{Held, OpenFault, Stands, why_refused};
+use bb_c_run::{Held, OpenFault, SlotKind, Stands, Waits, why_refused};
 use bb_shell::{Ask, Text, Value};
 use std::alloc::Global;
 use std::test::Fail;
@@ -205,6 +205,60 @@ fn asks_that_are_not_taken(rt: HostRuntime) -> Result<(), Fail> {
         class: Text::from_str(alloc, "crate")?,
     })?;
     assert!(rt; asks_stay(&mut held));
+    Ok(())
+}
+
+const YARD: &str = "%schema\n\
+    {\"classes\":[{\"name\":\"box\",\"slots\":[{\"name\":\"weight\",\"kind\":\"int\"}],\
+    \"links\":[{\"name\":\"on\",\"to\":\"box\",\"many\":false,\"inverse\":\"under\"},\
+    {\"name\":\"under\",\"to\":\"box\",\"many\":false,\"inverse\":\"on\"}]}],\
+    \"spaces\":[{\"name\":\"yard\",\"classes\":[\"box\"],\"dims\":[]}]}\n\
+    %units\n\
+    {\"units\":[{\"name\":\"a\",\"class\":\"box\"},{\"name\":\"b\",\"class\":\"box\"}],\
+    \"spaces\":[[\"b\",\"yard\"]]}\n\
+    %sources\n\
+    source look on box { when enter box yard; rate 7; do { } }\n\
+    source hail on box { when create box; rate 5; do { } }\n";
+
+// Returns whether the second of three pending activations is on unit 2, by `hail`, and the third is chosen.
+fn has_agenda(held: &Held) -> Result<bool, Fail> {
+    let (mut numbers, mut name) = ([0u64; 2], [0u8; 3]);
+    let waits = Waits {
+        unit: 2,
+        base: 5,
+        rating: 5,
+    };
+    Ok(
+        held.pending(&mut numbers)? == Some(3)
+            && numbers == [1, 2]
+            && held.waits(2, &mut name) == Some((waits, 4))
+            && &name == b"hai"
+            && held.waits(4, &mut name).is_none()
+            && held.choice() == Some(3),
+    )
+}
+
+// Returns whether unit 2 alone is in the yard, and the slots are of their kinds.
+fn has_members(held: &Held) -> Result<bool, Fail> {
+    let mut units = [0u64; 2];
+    Ok(
+        held.members("yard", &mut units)? == Some(1)
+            && units == [2, 0]
+            && held.members("lane", &mut units)?.is_none()
+            && held.kind(1, "weight") == Some(SlotKind::Int)
+            && held.kind(1, "on") == Some(SlotKind::Link)
+            && held.kind(1, "hue").is_none(),
+    )
+}
+
+#[test]
+fn the_agenda_and_the_members_of_a_space(rt: HostRuntime) -> Result<(), Fail> {
+    let alloc = rt.alloc();
+    let Ok(held) = Held::open(alloc, YARD.as_bytes(), "", 0) else {
+        return Err(Fail::from("the run begins"));
+    };
+    assert!(rt; has_agenda(&held)?);
+    assert!(rt; has_members(&held)?);
     Ok(())
 }
 

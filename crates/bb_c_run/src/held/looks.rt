@@ -1,14 +1,17 @@
-//! What a host sees of a held run: its blackboard, what is due, and what its sources can cost.
+//! What a host sees of a held run: its blackboard, its agenda, what is due, and what its sources can cost.
 
 ghost use Rattle.std.specs.Prelude.{◌≡◌, IfErr, IfOk, length, option_and_then, option_map};
 ghost use Rattle.bb_c_run.specs.Costs.{creates_in, most_steps_in};
-ghost use Rattle.bb_c_run.specs.Looking.{class_at, document_at, due_in, filled_if, interval_of, label_name_at};
-ghost use Rattle.bb_c_run.specs.Looking.{number_of, partners_at, text_of, truth_of, units_at, value_at};
+ghost use Rattle.bb_c_run.specs.Looking.{class_at, document_at, due_in, filled_if, interval_of, kind_at, label_name_at};
+ghost use Rattle.bb_c_run.specs.Looking.{members_at, number_of, partners_at, text_of, truth_of, units_at, value_at};
 ghost use Rattle.bb_c_run.specs.Sitting.{label_in, made_in, next_in};
+ghost use Rattle.bb_c_run.specs.Waiting.{choice_in, pending_in, waits_in};
 
+use crate::agenda::{self, Waits};
 use crate::costs;
 use crate::held::Held;
 use crate::looking::{self, fill};
+use crate::slot_kind::SlotKind;
 use bb_basis::Memory;
 use bb_schema::UnitId;
 use bb_shell::Value;
@@ -77,6 +80,13 @@ impl Held {
         Some(fill(looking::label_name(&view, unit, slot)?.as_bytes(), to))
     }
 
+    /// Returns the kind of a slot of a unit. `None` if there is no such unit or slot, or once the run is finished.
+    pub fn kind(&self, unit: UnitId, slot: &str) -> Option<SlotKind>
+        ensures { result ≡ kind_at self.now.running unit slot.now }
+    {
+        looking::kind(&self.running.as_ref()?.view(), unit, slot)
+    }
+
     /// Copies as many partners of a unit by a slot as `to` has room for, in order of addition, and returns their
     /// number. `None` if there is no such unit or slot, or once the run is finished. `Memory`: memory ran out.
     pub fn partners(
@@ -127,6 +137,55 @@ impl Held {
             None => Ok(None),
             Some(running) => looking::units(&running.view(), class, to),
         }
+    }
+
+    /// Copies as many numbers of the units in a space as `to` has room for, ascending, and returns how many there are.
+    /// `None` if there is no such space, or once the run is finished. `Memory`: memory ran out.
+    pub fn members(&self, space: &str, to: &mut [UnitId]) -> Result<Option<usize>, Memory>
+        ensures count { IfOk result (λ n. n ≡ option_map length (members_at self.now.running space.now)) }
+        ensures filled { IfOk result (λ _. to.new ≡ filled_if (members_at self.now.running space.now) to.old) }
+        ensures err { IfErr result (λ _. to.new ≡ to.old) }
+    {
+        match &self.running {
+            None => Ok(None),
+            Some(running) => looking::members(&running.view(), space, to),
+        }
+    }
+
+    /// Copies as many numbers of the pending activations as `to` has room for, ascending, and returns how many there
+    /// are. `None` once the run is finished. `Memory`: memory ran out.
+    pub fn pending(&self, to: &mut [u64]) -> Result<Option<usize>, Memory>
+        ensures count { IfOk result (λ n. n ≡ option_map length (pending_in self.now.running)) }
+        ensures filled { IfOk result (λ _. to.new ≡ filled_if (pending_in self.now.running) to.old) }
+        ensures err { IfErr result (λ _. to.new ≡ to.old) }
+    {
+        match &self.running {
+            None => Ok(None),
+            Some(running) => Ok(Some(agenda::pending(self.alloc, running.agenda(), to)?)),
+        }
+    }
+
+    /// Returns the pending activation with a number and the number of bytes of its source's name, and copies as much of
+    /// the name as `to` has room for. `None` if it is not pending, or once the run is finished.
+    pub fn waits(&self, number: u64, to: &mut [u8]) -> Option<(Waits, usize)>
+        ensures waits { result ≡ option_map (λ w. (w.0, length w.1)) (waits_in self.now.running number) }
+        ensures filled { to.new ≡ filled_if (option_map (λ w. w.1) (waits_in self.now.running number)) to.old }
+    {
+        let running = self.running.as_ref()?;
+        let (waits, name) = agenda::waiting(running.plan(), running.agenda(), number)?;
+        Some((waits, fill(name.as_bytes(), to)))
+    }
+
+    /// Returns the number of the activation that the next cycle executes, if one can be chosen. `None` also once the
+    /// run is finished, or if a move was cut short.
+    pub fn choice(&self) -> Option<u64>
+        ensures { result ≡ choice_in self.now.running }
+    {
+        let running = self.running.as_ref()?;
+        if running.was_cut() {
+            return None;
+        }
+        Some(running.next()?.number)
     }
 
     /// Copies as much of the blackboard's document of initial units as `to` has room for, and returns the number of
