@@ -9,3 +9,5 @@ pub mod within
 pub mod SourceLemmas
 -- what has a code fits
 pub mod exact
+-- sources that were read from a text
+pub mod parsed

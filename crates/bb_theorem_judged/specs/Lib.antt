@@ -26,3 +26,5 @@ pub mod Sums
 pub mod Held
 -- which parts are small enough for a code
 pub mod Fitting
+-- the parts of a source that was read, and which are small enough
+pub mod Small

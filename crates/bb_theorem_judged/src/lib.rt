@@ -4,5 +4,7 @@
 #![tactic(auto)]
 
 mod judged;
+mod texts;
 
 pub use judged::refusals_are_judged;
+pub use texts::texts_are_judged;
