@@ -1,5 +1,5 @@
 -- The codes of a source are accepted, and mean its text.
-use Rattle.std.proofs.Common.{◌≡◌, ℕ, true, ◌&&◌, Option, Some, None, Ok, subst, ap, ◌∙◌}
+use Rattle.std.proofs.Common.{◌≡◌, ℕ, true, ◌&&◌, Option, Some, None, Ok, sym, subst, ap, ◌∙◌}
 use Rattle.std.specs.Prelude.{IfSome}
 use Rattle.bb_basis.proofs.BoolLemmas.{and_first, and_second}
 use Rattle.bb_schema.specs.Schema.{Schema, class_named}
@@ -18,8 +18,8 @@ use Rattle.bb_bundle.specs.declared.draft.Header.{Header}
 use Rattle.bb_bundle.specs.declared.draft.ReactionDraft.{ReactionDraft}
 use Rattle.bb_bundle.specs.declared.draft.SourceDraft.{SourceDraft}
 use Rattle.bb_compile.specs.Compiled.{compiled}
-use Rattle.bb_board.specs.Board.{Board}
 use Rattle.bb_board.specs.Fits.{Fits}
+use Rattle.bb_theorem_machine.specs.NeverWrong.{EntryFits}
 use Rattle.bb_verify_effect.specs.declared.part.Part.{Part}
 use Rattle.bb_verify_effect.specs.declared.part.Part.TheVariants.{Require, Obviate, Retrigger, Revalidate, Do}
 use Rattle.bb_theorem_accepted.specs.Within.{is_within}
@@ -99,32 +99,32 @@ record OfEach (P : BlockTree → Type 0) (text : SourceText) : Type 0 where
   act : OfAct P text.act
 
 -- the codes of blocks of which something holds mean them, in as many steps
-module _ (b : Board) (steps : Code → ℕ) (P : BlockTree → Type 0)
-    (meant : (part : Part) (place : Place) (block : BlockTree) (code : Code) → P block → HasClasses b.schema part → part_code b.schema part place block ≡ Ok code → IsMeant steps b part block code) where
-  part_meant : (part : Part) (o : Option PartText) (code : Option Code) → OfPart P o → HasClasses b.schema part → IsMade b.schema part o code → IsMeantIf steps b part o code
+module _ (schema : Schema) (steps : Code → ℕ) (P : BlockTree → Type 0)
+    (meant : (part : Part) (place : Place) (block : BlockTree) (code : Code) → P block → HasClasses schema part → part_code schema part place block ≡ Ok code → IsMeant steps schema part block code) where
+  part_meant : (part : Part) (o : Option PartText) (code : Option Code) → OfPart P o → HasClasses schema part → IsMade schema part o code → IsMeantIf steps schema part o code
   part_meant part None None holds classes made = tt
   part_meant part None (Some code) holds classes made = made
   part_meant part (Some text) None holds classes made = made
   part_meant part (Some text) (Some code) holds classes made = meant part text.place text.block code holds classes made
 
-  reaction_meant : (part : (of : ℕ) → Part) (o : Option ReactionText) (r : Option (ReactionDraft Code)) → OfReaction P o → ((of : ℕ) → HasClass b.schema of → HasClasses b.schema (part of)) → IsMadeReaction b.schema part o r → IsMeantReaction steps b part o r
+  reaction_meant : (part : (of : ℕ) → Part) (o : Option ReactionText) (r : Option (ReactionDraft Code)) → OfReaction P o → ((of : ℕ) → HasClass schema of → HasClasses schema (part of)) → IsMadeReaction schema part o r → IsMeantReaction steps schema part o r
   reaction_meant part None None holds classes made = tt
   reaction_meant part None (Some r) holds classes made = made
   reaction_meant part (Some text) None holds classes made = made
   reaction_meant part (Some text) (Some r) holds classes made =
-      let there = classes made.of (class_there b.schema text.class made.of made.named) in
+      let there = classes made.of (class_there schema text.class made.of made.named) in
       record { of = made.of; named = made.named; class = made.class; clauses = made.clauses; code = meant (part made.of) text.place text.block r.code holds there made.code }
 
-  act_meant : (class : ℕ) (text : ActText) (act : ActDraft Code) → OfAct P text → HasClass b.schema class → IsMadeAct b.schema class text act → IsMeantAct steps b class text act
+  act_meant : (class : ℕ) (text : ActText) (act : ActDraft Code) → OfAct P text → HasClass schema class → IsMadeAct schema class text act → IsMeantAct steps schema class text act
   act_meant class acts.Native drafts.Native holds there made = tt
   act_meant class acts.Native (drafts.Do code) holds there made = made
   act_meant class (acts.Do text) drafts.Native holds there made = made
   act_meant class (acts.Do text) (drafts.Do code) holds there made = meant (Do class) text.place text.block code holds there made
 
-  each_meant : (text : SourceText) (draft : SourceDraft Code) → OfEach P text → compiled b.schema text ≡ Ok draft → AreMeant steps b text draft
+  each_meant : (text : SourceText) (draft : SourceDraft Code) → OfEach P text → compiled schema text ≡ Ok draft → AreMeant steps schema text draft
   each_meant text draft p h =
-      let m = source_made b.schema text draft h in
-      let there : HasClass b.schema m.of = class_there b.schema text.header.class m.of m.named in
+      let m = source_made schema text draft h in
+      let there : HasClass schema m.of = class_there schema text.header.class m.of m.named in
       record {
         name = ap (λ (x : Header). x.name) m.header;
         class = ap (λ (x : Header). x.class) m.header;
@@ -191,15 +191,21 @@ loopless_each text loopless =
     of_act acts.Native h = tt
     of_act (acts.Do text) h = h
 
-module _ (b : Board) (sf : schemas.Fits b.schema) (fits : Fits b.schema b.world) where
-  code_meant : (part : Part) (place : Place) (block : BlockTree) (code : Code) → Loopless block → HasClasses b.schema part → part_code b.schema part place block ≡ Ok code → IsMeant once_each b part block code
-  code_meant part place block code loopless classes made entry limit entry_fits enough = loopless_told part code entry b (within_code code (part_within b.schema part place block code made)) sf fits place block limit loopless classes made entry_fits enough
+module _ (schema : Schema) (sf : schemas.Fits schema) where
+  pub code_meant : (part : Part) (place : Place) (block : BlockTree) (code : Code) → Loopless block → HasClasses schema part → part_code schema part place block ≡ Ok code → IsMeant once_each schema part block code
+  code_meant part place block code loopless classes made b entry limit same fits entry_fits enough =
+      let has = sym same in
+      loopless_told part code entry b (within_code code (part_within schema part place block code made)) (subst schemas.Fits has sf) (subst (λ s. Fits s b.world) has fits) place block limit loopless
+      (subst (λ s. HasClasses s part) has classes) (subst (λ s. part_code s part place block ≡ Ok code) has made) (subst (λ s. EntryFits s b.world part entry) has entry_fits) enough
 
-  text_meant : (part : Part) (place : Place) (block : BlockTree) (code : Code) → Any block → HasClasses b.schema part → part_code b.schema part place block ≡ Ok code → IsMeant within_budget b part block code
-  text_meant part place block code any classes made entry limit entry_fits enough = text_told part code entry b (within_code code (part_within b.schema part place block code made)) sf fits place block limit classes made entry_fits enough
+  pub text_meant : (part : Part) (place : Place) (block : BlockTree) (code : Code) → Any block → HasClasses schema part → part_code schema part place block ≡ Ok code → IsMeant within_budget schema part block code
+  text_meant part place block code any classes made b entry limit same fits entry_fits enough =
+      let has = sym same in
+      text_told part code entry b (within_code code (part_within schema part place block code made)) (subst schemas.Fits has sf) (subst (λ s. Fits s b.world) has fits) place block limit
+      (subst (λ s. HasClasses s part) has classes) (subst (λ s. part_code s part place block ≡ Ok code) has made) (subst (λ s. EntryFits s b.world part entry) has entry_fits) enough
 
-  pub loopless_meant : (text : SourceText) (draft : SourceDraft Code) → is_loopless_source text ≡ true → compiled b.schema text ≡ Ok draft → AreMeant once_each b text draft
-  loopless_meant text draft loopless h = each_meant b once_each Loopless code_meant text draft (loopless_each text loopless) h
+  pub loopless_meant : (text : SourceText) (draft : SourceDraft Code) → is_loopless_source text ≡ true → compiled schema text ≡ Ok draft → AreMeant once_each schema text draft
+  loopless_meant text draft loopless h = each_meant schema once_each Loopless code_meant text draft (loopless_each text loopless) h
 
-  pub source_meant : (text : SourceText) (draft : SourceDraft Code) → compiled b.schema text ≡ Ok draft → AreMeant within_budget b text draft
-  source_meant text draft h = each_meant b within_budget Any text_meant text draft (any_each text) h
+  pub source_meant : (text : SourceText) (draft : SourceDraft Code) → compiled schema text ≡ Ok draft → AreMeant within_budget schema text draft
+  source_meant text draft h = each_meant schema within_budget Any text_meant text draft (any_each text) h

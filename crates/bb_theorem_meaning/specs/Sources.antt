@@ -20,6 +20,7 @@ use Rattle.bb_verify.specs.Accepted.{checked}
 use Rattle.bb_verify.specs.Budget.{budget}
 use Rattle.bb_verify.specs.declared.checked.TheConstants.{FOUND_LIMIT}
 use Rattle.bb_board.specs.Board.{Board}
+use Rattle.bb_board.specs.Fits.{Fits}
 use Rattle.bb_machine.specs.Activation.{activation}
 use Rattle.bb_machine.specs.declared.outcome.Entry.{Entry}
 use Rattle.bb_theorem_machine.specs.NeverWrong.{EntryFits}
@@ -72,7 +73,7 @@ pub record AreAccepted (s : Schema) (draft : SourceDraft Code) : Type 0 where
   pub revalidate : IfSome draft.parts.revalidate (IsAccepted s (Revalidate class))
   pub act : IsAcceptedAct s class draft.act
 
--- ---- each code means the text of its part, on a blackboard
+-- ---- each code means the text of its part, on every blackboard of a schema
 
 -- how many steps are enough for an execution of a code: the number of its ops, if no op is executed twice; and its
 -- budget, whatever loops it has
@@ -82,47 +83,47 @@ once_each code = length code.ops
 abbrev pub within_budget : Code → ℕ
 within_budget code = budget code FOUND_LIMIT
 
--- an execution of the code that begins with units that fit the part, and may make that many steps, ends as the block
--- means
-abbrev pub IsMeant : (steps : Code → ℕ) → Board → Part → BlockTree → Code → Type 0
-IsMeant steps b part block code =
-    (entry : Entry) (limit : ℕ) → EntryFits b.schema b.world part entry → steps code ≤ limit
-    → IsTold (meaning part block entry b) (activation limit code entry b)
+-- an execution of the code on any blackboard that has the schema and fits it, for units that fit the part, and with a
+-- limit of at least that many steps, ends as the block means
+abbrev pub IsMeant : (steps : Code → ℕ) → Schema → Part → BlockTree → Code → Type 0
+IsMeant steps s part block code =
+    (b : Board) (entry : Entry) (limit : ℕ) → b.schema ≡ s → Fits s b.world → EntryFits s b.world part entry
+    → steps code ≤ limit → IsTold (meaning part block entry b) (activation limit code entry b)
 
 -- the source has a part exactly if its text has it
-abbrev pub IsMeantIf : (steps : Code → ℕ) → Board → Part → Option PartText → Option Code → Type 0
-IsMeantIf steps b part None None = Unit {0}
-IsMeantIf steps b part (Some text) (Some code) = IsMeant steps b part text.block code
-IsMeantIf steps b part _ _ = ⊥
+abbrev pub IsMeantIf : (steps : Code → ℕ) → Schema → Part → Option PartText → Option Code → Type 0
+IsMeantIf steps s part None None = Unit {0}
+IsMeantIf steps s part (Some text) (Some code) = IsMeant steps s part text.block code
+IsMeantIf steps s part _ _ = ⊥
 
 -- a reaction has the class and the clauses of its text, and its code is for events of that class
-pub record IsMeantFor (steps : Code → ℕ) (b : Board) (part : (of : ℕ) → Part) (text : ReactionText) (r : ReactionDraft Code) : Type 0 where
+pub record IsMeantFor (steps : Code → ℕ) (s : Schema) (part : (of : ℕ) → Part) (text : ReactionText) (r : ReactionDraft Code) : Type 0 where
   pub of : ℕ
-  pub named : class_named b.schema text.class ≡ Some of
+  pub named : class_named s text.class ≡ Some of
   pub class : r.class ≡ text.class
   pub clauses : r.clauses ≡ text.clauses
-  pub code : IsMeant steps b (part of) text.block r.code
+  pub code : IsMeant steps s (part of) text.block r.code
 
-abbrev pub IsMeantReaction : (steps : Code → ℕ) → Board → ((of : ℕ) → Part) → Option ReactionText → Option (ReactionDraft Code) → Type 0
-IsMeantReaction steps b part None None = Unit {0}
-IsMeantReaction steps b part (Some text) (Some r) = IsMeantFor steps b part text r
-IsMeantReaction steps b part _ _ = ⊥
+abbrev pub IsMeantReaction : (steps : Code → ℕ) → Schema → ((of : ℕ) → Part) → Option ReactionText → Option (ReactionDraft Code) → Type 0
+IsMeantReaction steps s part None None = Unit {0}
+IsMeantReaction steps s part (Some text) (Some r) = IsMeantFor steps s part text r
+IsMeantReaction steps s part _ _ = ⊥
 
-abbrev pub IsMeantAct : (steps : Code → ℕ) → Board → (class : ℕ) → ActText → ActDraft Code → Type 0
-IsMeantAct steps b class acts.Native drafts.Native = Unit {0}
-IsMeantAct steps b class (acts.Do text) (drafts.Do code) = IsMeant steps b (Do class) text.block code
-IsMeantAct steps b class _ _ = ⊥
+abbrev pub IsMeantAct : (steps : Code → ℕ) → Schema → (class : ℕ) → ActText → ActDraft Code → Type 0
+IsMeantAct steps s class acts.Native drafts.Native = Unit {0}
+IsMeantAct steps s class (acts.Do text) (drafts.Do code) = IsMeant steps s (Do class) text.block code
+IsMeantAct steps s class _ _ = ⊥
 
 -- a source has the name, class, rate, clauses and parts of its text, and each of its codes means its part
-pub record AreMeant (steps : Code → ℕ) (b : Board) (text : SourceText) (draft : SourceDraft Code) : Type 0 where
+pub record AreMeant (steps : Code → ℕ) (s : Schema) (text : SourceText) (draft : SourceDraft Code) : Type 0 where
   pub name : draft.header.name ≡ text.header.name
   pub class : draft.header.class ≡ text.header.class
   pub rate : draft.header.rate ≡ text.rate
   pub triggers : draft.header.triggers ≡ text.clauses
   pub of : ℕ
-  pub named : class_named b.schema text.header.class ≡ Some of
-  pub require : IsMeantIf steps b (Require of) text.parts.require draft.parts.require
-  pub obviate : IsMeantReaction steps b (Obviate of) text.parts.obviate draft.parts.obviate
-  pub retrigger : IsMeantReaction steps b (Retrigger of) text.parts.retrigger draft.parts.retrigger
-  pub revalidate : IsMeantIf steps b (Revalidate of) text.parts.revalidate draft.parts.revalidate
-  pub act : IsMeantAct steps b of text.act draft.act
+  pub named : class_named s text.header.class ≡ Some of
+  pub require : IsMeantIf steps s (Require of) text.parts.require draft.parts.require
+  pub obviate : IsMeantReaction steps s (Obviate of) text.parts.obviate draft.parts.obviate
+  pub retrigger : IsMeantReaction steps s (Retrigger of) text.parts.retrigger draft.parts.retrigger
+  pub revalidate : IsMeantIf steps s (Revalidate of) text.parts.revalidate draft.parts.revalidate
+  pub act : IsMeantAct steps s of text.act draft.act

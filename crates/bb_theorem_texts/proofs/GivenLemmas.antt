@@ -5,7 +5,6 @@ use Rattle.bb_basis.specs.Results.{◌>>=◌, map_err, try_map}
 use Rattle.bb_basis.proofs.PlacedLemmas.{map_err_ok}
 use Rattle.bb_basis.proofs.ResultLemmas.{bind_ok, ok_or_ok, same_ok}
 use Rattle.bb_schema.specs.Schema.{Schema, class_named}
-use Rattle.bb_board.specs.Board.{Board}
 use Rattle.bb_code.specs.Code.{Code}
 use Rattle.bb_verify.specs.Accepted.{Checked, accepted, checked}
 use Rattle.bb_verify.specs.PartType.{Part}
@@ -254,21 +253,19 @@ module _ (s : Schema) where
       }
 
 -- each text runs as it says, where what is compiled means its text
-pub runs_at : (b : Board) (natives : List (List ℕ)) (sources bundle : List ℕ) (made : List Source) (trees : List SourceText) (i : ℕ) (text : SourceText)
-    → ((t : SourceText) (draft : SourceDraft Code) → compiled b.schema t ≡ Ok draft → AreMeant within_budget b t draft)
-    → given natives b.schema sources bundle ≡ Ok made → trees_of sources ≡ Ok trees → slice_get trees i ≡ Some text → RunsAt b made i text
+pub runs_at : (s : Schema) (natives : List (List ℕ)) (sources bundle : List ℕ) (made : List Source) (trees : List SourceText) (i : ℕ) (text : SourceText)
+    → ((t : SourceText) (draft : SourceDraft Code) → compiled s t ≡ Ok draft → AreMeant within_budget s t draft)
+    → given natives s sources bundle ≡ Ok made → trees_of sources ≡ Ok trees → slice_get trees i ≡ Some text → RunsAt s made i text
 unfolding given
-runs_at b natives sources bundle made trees i text means h read at =
-    let one = bind_ok (codes_in b.schema sources bundle) (sources_for natives b.schema) made h in
-    let g = codes_given b.schema sources bundle one.0 one.1 in
+runs_at s natives sources bundle made trees i text means h read at =
+    let one = bind_ok (codes_in s sources bundle) (sources_for natives s) made h in
+    let g = codes_given s sources bundle one.0 one.1 in
     let same : trees ≡ g.trees = same_ok trees g.trees (sym read ∙ g.read) in
-    let d = try_map_to (compiled_source b.schema) g.trees g.compiled' i text g.each (ap (λ l. slice_get l i) (sym same) ∙ at) in
+    let d = try_map_to (compiled_source s) g.trees g.compiled' i text g.each (ap (λ l. slice_get l i) (sym same) ∙ at) in
     let there : slice_get one.0 i ≡ Some d.0 = ap (λ l. slice_get l i) (sym g.all) ∙ in_front g.compiled' g.bundled i d.0 d.2 in
-    let source = source_for b.schema natives one.0 made i d.0 one.2 there in
+    let source = source_for s natives one.0 made i d.0 one.2 there in
     record {
       source = source.0;
       there = source.1;
-      draft = d.0;
-      means = means text d.0 (map_err_ok (inputs.Compile text.header.name) (compiled b.schema text) d.0 d.1);
-      codes = source.2;
+      written = record { draft = d.0; means = means text d.0 (map_err_ok (inputs.Compile text.header.name) (compiled s text) d.0 d.1); codes = source.2 };
     }

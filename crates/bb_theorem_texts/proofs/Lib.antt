@@ -4,3 +4,5 @@ pub mod ClauseLemmas
 pub mod GivenLemmas
 -- which sources the verifier refuses
 pub mod RefusedLemmas
+-- what their executions do
+pub mod ToldLemmas

@@ -2,7 +2,6 @@
 use Rattle.std.specs.Prelude.{◌≡◌, ℕ, List, slice_get, Option, Some, None, option_map, Ok, Err}
 use Rattle.std.specs.List.{AllZip}
 use Rattle.bb_schema.specs.Schema.{Schema, class_named, slot_named, space_named}
-use Rattle.bb_board.specs.Board.{Board}
 use Rattle.bb_board.specs.declared.event.ChangeKind.{ChangeKind}
 use Rattle.bb_board.specs.declared.event.ChangeKind.TheVariants as kinds
 use Rattle.bb_code.specs.Code.{Code}
@@ -91,10 +90,15 @@ pub record HasCodes (s : Schema) (draft : SourceDraft Code) (source : Source) : 
   pub revalidate : code_in source.revalidate ≡ draft.parts.revalidate
   pub act : act_in source.act ≡ draft.act
 
--- the source at this place has codes that mean the parts of a text
-pub record RunsAt (b : Board) (made : List Source) (i : ℕ) (text : SourceText) : Type 0 where
+-- a source is what a text says: it has the name, the class, the rate, the clauses and the parts of the text, and each of
+-- its codes means the text of its part
+pub record IsAsWritten (s : Schema) (text : SourceText) (source : Source) : Type 0 where
+  pub draft : SourceDraft Code
+  pub means : AreMeant within_budget s text draft
+  pub codes : HasCodes s draft source
+
+-- the source at this place is what a text says
+pub record RunsAt (s : Schema) (made : List Source) (i : ℕ) (text : SourceText) : Type 0 where
   pub source : Source
   pub there : slice_get made i ≡ Some source
-  pub draft : SourceDraft Code
-  pub means : AreMeant within_budget b text draft
-  pub codes : HasCodes b.schema draft source
+  pub written : IsAsWritten s text source

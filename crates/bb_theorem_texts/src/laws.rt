@@ -11,7 +11,7 @@ ghost use Rattle.bb_verify.specs.PartType.{Part};
 ghost use Rattle.bb_code.specs.declared.flaw.VerifyFault.{VerifyFault};
 ghost use Rattle.bb_theorem_texts.specs.Texts.{IsRefusedInBundle, RunsAt};
 
-use bb_board::Board;
+use bb_schema::Schema;
 use bb_theorem_meaning::{compiled_source_is_accepted, compiled_source_means_its_text};
 
 /// States what becomes of an input's sources that are text, for any natives and any bundle besides them.
@@ -21,16 +21,16 @@ use bb_theorem_meaning::{compiled_source_is_accepted, compiled_source_means_its_
 ///   the compiler gave for it, and each of these means the text of its part (`compiled_source_means_its_text` of
 ///   bb_theorem_meaning). Its triggers, and the class and clauses of its reactions, are those of the text: each kind of
 ///   change, with the class and the slot or space that the text names.
-pub fn text_sources_mean_their_text(board: &Board)
+pub fn text_sources_mean_their_text(schema: &Schema)
     ensures accepted { (natives : List (List ℕ)) (sources bundle name : List ℕ) (part : Part) (fault : VerifyFault) →
-        given natives board.now.schema sources bundle ≡ Err (Verify name part fault) →
-        IsRefusedInBundle board.now.schema bundle (Verify name part fault) }
+        given natives schema.now sources bundle ≡ Err (Verify name part fault) →
+        IsRefusedInBundle schema.now bundle (Verify name part fault) }
     ensures run_as_written { (natives : List (List ℕ)) (sources bundle : List ℕ) (made : List Source)
         (trees : List SourceText) (i : ℕ) (text : SourceText) →
-        given natives board.now.schema sources bundle ≡ Ok made →
-        trees_of sources ≡ Ok trees → slice_get trees i ≡ Some text → RunsAt board.now made i text }
+        given natives schema.now sources bundle ≡ Ok made →
+        trees_of sources ≡ Ok trees → slice_get trees i ≡ Some text → RunsAt schema.now made i text }
 {
     // For the proof: the laws of every compiled source.
-    compiled_source_is_accepted(board.schema());
-    compiled_source_means_its_text(board);
+    compiled_source_is_accepted(schema);
+    compiled_source_means_its_text(schema);
 }
