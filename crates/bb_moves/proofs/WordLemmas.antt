@@ -13,14 +13,14 @@ module _ (byte : ℕ) where
   unfolding split_at
   split_at_later b bs other = ap (λ t. cond t (Some ([], bs)) (option_map (put_front b) (split_at byte bs))) other
 
-  split_at_first : (front back : List ℕ) → All (λ b. (b == byte) ≡ false) front → split_at byte (front ++ byte ∷ back) ≡ Some (front, back)
+  pub split_at_first : (front back : List ℕ) → All (λ b. (b == byte) ≡ false) front → split_at byte (front ++ byte ∷ back) ≡ Some (front, back)
   unfolding split_at
   split_at_first [] back h = ap (λ t. cond t (Some ([], back)) (option_map (put_front byte) (split_at byte back))) (eq-eqb byte byte refl)
   split_at_first (b ∷ bs) back h =
       split_at_later b (bs ++ byte ∷ back) (All-head (λ b. (b == byte) ≡ false) b bs h)
       ∙ ap (option_map (put_front b)) (split_at_first bs back (All-tail (λ b. (b == byte) ≡ false) b bs h))
 
-  missed : (text : List ℕ) → All (λ b. (b == byte) ≡ false) text → split_at byte text ≡ None
+  pub missed : (text : List ℕ) → All (λ b. (b == byte) ≡ false) text → split_at byte text ≡ None
   unfolding split_at
   missed [] h = refl
   missed (b ∷ bs) h =

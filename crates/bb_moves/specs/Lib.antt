@@ -12,6 +12,8 @@ pub mod Keywords
 pub mod Asks
 -- the moves that a text spells
 pub mod MovesText
+-- how moves are written
+pub mod Written
 -- of bb_shell: natives handed in
 pub use Rattle.bb_shell.specs.Roster
 -- for private contracts only
