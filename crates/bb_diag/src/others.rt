@@ -27,8 +27,8 @@ enum Judged {
 
 // The messages so far.
 #[derive(Drop)]
-struct Others<'a> {
-    context: Context<'a>,
+struct Others<'a, 's> {
+    context: Context<'a, 's>,
     // Where the fault is that the input is refused for.
     first: Place,
     text: String,
@@ -38,7 +38,7 @@ struct Others<'a> {
 
 /// Returns the messages on the faults of the text of sources besides the one at a location, each on lines of its own
 /// after a line feed. `Memory`: memory ran out.
-pub(crate) fn others_than(context: Context<'_>, first: Place) -> Result<String, Memory> {
+pub(crate) fn others_than(context: Context<'_, '_>, first: Place) -> Result<String, Memory> {
     let mut others = Others {
         context,
         first,
@@ -56,7 +56,7 @@ pub(crate) fn others_than(context: Context<'_>, first: Place) -> Result<String, 
     others.end()
 }
 
-impl Others<'_> {
+impl Others<'_, '_> {
     // Adds the faults of a piece: its first, and, if it can't be read, the operators of other languages after that one.
     fn add_piece(&mut self, piece: Piece<'_>) -> Result<(), Memory> {
         match judge(self.context, piece)? {
@@ -96,7 +96,8 @@ impl Others<'_> {
         piece: Piece<'_>,
     ) -> Result<(), Memory> {
         if self.begins(place)? {
-            let _place = write_fault(&mut self.text, self.context, fault, piece)?;
+            let context = self.context;
+            let _place = write_fault(&mut self.text, context, fault, piece)?;
         }
         Ok(())
     }
@@ -107,14 +108,16 @@ impl Others<'_> {
                 step: "rule",
                 number: reason.number,
             };
-            write_reason(&mut self.text, self.context, label, name, reason)?;
+            let context = self.context;
+            write_reason(&mut self.text, context, label, name, reason)?;
         }
         Ok(())
     }
 
     // Adds the operators of other languages in a piece after the place of its first fault.
     fn add_operators(&mut self, piece: Piece<'_>, first: Place) -> Result<(), Memory> {
-        let mut operators = Operators::of(self.context.alloc, piece)?;
+        let context = self.context;
+        let mut operators = Operators::of(context.alloc, piece)?;
         for _turn in 0..piece.own().len() {
             let Some(token) = operators.take()? else {
                 return Ok(());
@@ -122,13 +125,12 @@ impl Others<'_> {
             let place = place_of(token);
             if is_apart(token, first) && self.begins(place)? {
                 let spot = operators.spot()?;
-                let sources = self.context.input.sources;
                 let reason = Reason {
                     place,
                     number: 0,
-                    text: explain_operator(self.context.alloc, sources, &spot)?,
+                    text: explain_operator(context.alloc, context.input.sources, &spot)?,
                 };
-                write_reason(&mut self.text, self.context, label_at(token), "", &reason)?;
+                write_reason(&mut self.text, context, label_at(token), "", &reason)?;
             }
         }
         Ok(())
@@ -172,7 +174,7 @@ fn is_apart(token: Token<'_>, first: Place) -> bool {
 }
 
 // Judges a piece alone.
-fn judge(context: Context<'_>, piece: Piece<'_>) -> Result<Judged, Memory> {
+fn judge(context: Context<'_, '_>, piece: Piece<'_>) -> Result<Judged, Memory> {
     match (parse(context.alloc, piece.own()), context.schema) {
         (Ok(trees), Some(schema)) => { judge_under(context.alloc, schema, piece, trees.as_slice()) }
         (Ok(_), None) => Ok(Judged::Right),

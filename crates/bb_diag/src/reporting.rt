@@ -47,10 +47,10 @@ impl<'a> Input<'a> {
 
 /// What messages on a text of sources are looked up in.
 #[derive(Clone, Copy)]
-pub(crate) struct Context<'a> {
+pub(crate) struct Context<'a, 's> {
     pub(crate) alloc: Global,
     /// The schema, unless it can't be read.
-    pub(crate) schema: Option<&'a Schema>,
+    pub(crate) schema: Option<&'s Schema>,
     pub(crate) input: Input<'a>,
 }
 
@@ -118,7 +118,7 @@ pub(crate) fn write_message(
 /// the statement at fault. Returns the location of the fault itself, if it is in the text.
 pub(crate) fn write_fault(
     text: &mut String,
-    context: Context<'_>,
+    context: Context<'_, '_>,
     fault: &InputFault,
     piece: Piece<'_>,
 ) -> Result<Option<Place>, Memory> {
@@ -146,7 +146,7 @@ fn source_of(fault: &InputFault) -> &str {
 /// of its source, empty if that is not known.
 pub(crate) fn write_reason(
     text: &mut String,
-    context: Context<'_>,
+    context: Context<'_, '_>,
     label: Label,
     source: &str,
     reason: &Reason,
@@ -177,7 +177,7 @@ fn note_place(
 // Returns where in a piece of the text of sources a fault is, and what is wrong there, if there is anything to add to
 // the fault's own sentence.
 fn reason_of(
-    context: Context<'_>,
+    context: Context<'_, '_>,
     fault: &InputFault,
     piece: Piece<'_>,
 ) -> Result<Option<Reason>, Memory> {

@@ -39,7 +39,7 @@ fn begin(text: &mut String, name: &str, part: &str, site: Site<'_>) -> Result<()
 
 // Returns whether an op searches a space that can hold many units. The number of all units of a class in a space that
 // admits no others is known without a search.
-fn is_dear(costed: Costed<'_>, code: &Code, place: Place) -> bool {
+fn is_dear(costed: Costed<'_, '_>, code: &Code, place: Place) -> bool {
     let Some(Op::Find(index)) = code.op(place as usize) else {
         return false;
     };
@@ -114,7 +114,7 @@ fn write_reaction(
 fn write_notes_on(
     alloc: Global,
     text: &mut String,
-    costed: Costed<'_>,
+    costed: Costed<'_, '_>,
     source: &Source,
     sites: &SourceSites<'_>,
 ) -> Result<(), Memory> {
@@ -146,7 +146,7 @@ pub(crate) fn write_cost_notes(
     alloc: Global,
     text: &mut String,
     texts: &Texts<'_>,
-    costed: Costed<'_>,
+    costed: Costed<'_, '_>,
 ) -> Result<(), Memory> {
     for (index, source) in costed.sources.iter().enumerate() {
         let sites = texts.sites(alloc, index, source)?;

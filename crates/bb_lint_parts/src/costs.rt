@@ -85,10 +85,10 @@ fn write_lines(text: &mut String, widths: &Widths, source: &Source) -> Result<()
 
 /// Sources whose costs are told, and what is known of them.
 #[derive(Clone, Copy)]
-pub struct Costed<'a> {
+pub struct Costed<'a, 'c> {
     pub schema: &'a Schema,
     pub sources: &'a [Source],
-    pub crowds: &'a Crowds,
+    pub crowds: &'c Crowds,
 }
 
 /// Appends a table of what the parts of sources cost, with heads and a line for each part of each source, and then the
@@ -97,7 +97,7 @@ pub fn write_costs(
     alloc: Global,
     text: &mut String,
     texts: &Texts<'_>,
-    costed: Costed<'_>,
+    costed: Costed<'_, '_>,
 ) -> Result<(), Memory> {
     let sources = costed.sources;
     let mut widths = Widths::of("source", &HEADS);
