@@ -20,5 +20,7 @@ pub mod SpeltLemmas
 pub mod AskLemmas
 -- moves, read again
 pub mod AgainLemmas
+-- what is read can be written again
+pub mod TellLemmas
 -- worked rows
 pub mod Rows

@@ -13,9 +13,12 @@ ghost use Rattle.bb_moves.specs.Written.{IsEnded, can_tell, history_text};
 ///
 /// - `joined`: if the last line of a history is ended, the moves of another one behind it are read after its own.
 /// - `again`: the texts of moves that the format can tell, one behind the other, are read as these moves.
+/// - `told`: the format can tell each move that is read. So whatever a history has, `history` can write.
 pub fn histories_are_orderly()
     ensures joined { (schema : Schema) (a b : List ℕ) (ms ns : List Move) → IsEnded a →
         moves_of schema a ≡ Ok ms → moves_of schema b ≡ Ok ns → moves_of schema (a ++ b) ≡ Ok (ms ++ ns) }
     ensures again { (schema : Schema) (ms : List Move) → Fits schema → list_all (can_tell schema) ms ≡ true →
         IsUtf8 (history_text schema ms) → moves_of schema (history_text schema ms) ≡ Ok ms }
+    ensures told { (schema : Schema) (text : List ℕ) (ms : List Move) → moves_of schema text ≡ Ok ms →
+        list_all (can_tell schema) ms ≡ true }
 {}
