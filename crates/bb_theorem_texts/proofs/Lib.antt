@@ -6,3 +6,5 @@ pub mod GivenLemmas
 pub mod RefusedLemmas
 -- what their executions do
 pub mod ToldLemmas
+-- what a call that compiles a text returns
+pub mod CompiledLemmas

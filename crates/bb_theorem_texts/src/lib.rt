@@ -2,8 +2,10 @@
 //! and its executions in a run do what the text means. No code calls it.
 #![tactic(auto)]
 
+mod compiling;
 mod executions;
 mod laws;
 
+pub use compiling::compile_by_meaning;
 pub use executions::executions_mean_their_text;
 pub use laws::text_sources_mean_their_text;
