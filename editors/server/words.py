@@ -31,11 +31,11 @@ AS_EVENT = {
     "unlink": ("unlink C.S", "a partner is added to its link slot, or removed; both units of a link have their event"),
     "enter": ("enter C W", "it enters or leaves the space"),
     "leave": ("leave C W", "it enters or leaves the space"),
-    "quiescence": ("quiescence", "no pending activation reaches the floor; the event's unit is 0, which is no unit"),
+    "quiescence": ("quiescence", "no pending activation reaches the floor; the event's unit is 0, which is not a unit"),
 }
 IN_HEAD = {
     "source": ("source NAME on CLASS { .. }", "A source has a name and a class"),
-    "on": ("on CLASS", "The class of a trigger is the source's or below it; that of a reaction's event is the reaction's or below it."),
+    "on": ("on CLASS", "A trigger's class is the source's or below it; the class of a reaction's event is the reaction's or below it."),
     "when": ("when EVENT;", "when, on one line or more, names the events that trigger it."),
     "rate": ("rate INT;", "the rating, if there is no require"),
     "require": ("require { .. }", "asked at an event that triggers the source"),
@@ -54,11 +54,11 @@ IN_PART = {
     "else": ("if E { .. } else { .. }", "else is free if the first block always ends."),
     "with": (
         "with n = u as C { .. }, with n = u.s { .. }",
-        "runs the first block if the unit exists and is a C. C is u's class or below it; if u is live, below it",
+        "runs the first block if the unit exists and is a C. C is u's class or below it; if u is live, only below it",
     ),
     "as": (
         "with n = u as C { .. } else { .. }",
-        "runs the first block if the unit exists and is a C. C is u's class or below it; if u is live, below it",
+        "runs the first block if the unit exists and is a C. C is u's class or below it; if u is live, only below it",
     ),
     "for": ("for n in Q { .. }", "runs the block for each unit of Q that still exists at its turn"),
     "in": ("for n in Q { .. }, find C in W where P", "runs the block for each unit of Q that still exists at its turn"),
