@@ -1,24 +1,24 @@
 """Reads what `bb check` writes: faults, warnings and costs on standard error, and the cost of parts on standard output.
 
-A message has one of two forms. Both may be followed by notes, lines that begin with `  | `:
+A message may be followed by notes, lines that begin with `  | `:
 
-    bb: source hail, line 4, column 8: "hello" is no name here; in scope: it
     input:7:8: error[compile 1]: "hello" is no name here; in scope: it
+      | source hail, line 4 of %sources
 """
 
 import re
 from dataclasses import dataclass, field
 
 ERROR, WARNING, INFORMATION = 1, 2, 3
-SEVERITIES = {"bb": ERROR, "error": ERROR, "warning": WARNING, "cost": INFORMATION, "note": INFORMATION}
+SEVERITIES = {"error": ERROR, "warning": WARNING, "note": INFORMATION}
 NOTE = "  | "
-OF_INPUT = re.compile(r"line (\d+) of the input")
-OLD = re.compile(r"(bb|warning|cost): (?:(warning): )?(.*)")
-NEW = re.compile(r"input(?::(\d+))?(?::(\d+))?: (error|warning|note)(?:\[([^\]]*)\])?: (.*)")
-# What a sentence begins with: whose it is, and where in that.
+MESSAGE = re.compile(r"input(?::(\d+))?(?::(\d+))?: (error|warning|note)(?:\[([^\]]*)\])?: (.*)")
+# What a sentence begins with: whose it is, or the entry of a document, whose section the number of the fault names.
 PLACE = re.compile(
-    r"(?:the (?:first|initial) units would be refused: )?((?:source [a-z]\w*|sources|schema|units|bundle|input)(?:, [^:]*)?): (.*)"
+    r"(?:the first units would be refused: )?(source [a-z]\w*(?:, [^:]*)?|((?:labels|classes|spaces|units|links)\[[^:]*)): (.*)"
 )
+# A note that tells the place once more, by the lines of a section.
+SHOWN = re.compile(r"(?:source [a-z]\w*(?:, \w+)?, )?line \d+ of %\w+")
 ROW = re.compile(r"(\w+) (require|obviate|retrigger|revalidate|do) ops (\d+) budget (\d+) (\d+)")
 REFUSED = re.compile(r"refused (\w+)(?: .*?)?( code)? (\w+)")
 
@@ -55,39 +55,30 @@ def said_in(told: str) -> list[Said]:
 
 
 def said_by(line: str) -> Said | None:
-    """The message that a line is, of either form; None if it is another line."""
-    new, old = NEW.fullmatch(line), OLD.fullmatch(line)
-    if new:
-        said = Said(SEVERITIES[new[3]], new[5], int(new[1] or 0), int(new[2] or 0), code=new[4] or "")
-    elif old:
-        said = Said(SEVERITIES[old[2] or old[1]], old[3])
-    else:
+    """The message that a line is; None if it is another line."""
+    message = MESSAGE.fullmatch(line)
+    if not message:
         return None
+    said = Said(SEVERITIES[message[3]], message[5], int(message[1] or 0), int(message[2] or 0), code=message[4] or "")
     place = PLACE.fullmatch(said.sentence)
     if place:
-        said.place, said.sentence = place[1], place[2]
-        whole, column = OF_INPUT.search(said.place), re.search(r"column (\d+)", said.place)
-        said.line = said.line or int(whole[1] if whole else 0)
-        said.column = said.column or int(column[1] if column else 0)
+        section = said.code.partition(" ")[0]
+        said.place, said.sentence = f"{section}, {place[2]}" if place[2] else place[1], place[3]
     return said
 
 
 def take_notes(said: Said) -> None:
-    """Takes line and column from the notes, and leaves out those that only show them."""
+    """Leaves out the notes that only show the place."""
     kept: list[str] = []
     is_shown = False
     for note in said.notes:
-        whole, column = OF_INPUT.search(note), re.search(r"column (\d+)", note)
-        numbered = re.match(r"line (\d+): (.*)", note)
-        if whole:
-            said.line = said.line or int(whole[1])
-            said.column = said.column or int(column[1] if column else 0)
-        elif numbered and said.place == "input":
-            said.line = said.line or int(numbered[1])
-            kept.append(numbered[2])
-        elif not is_shown and note.strip() != "^" or note.startswith("byte "):
+        numbered = re.match(r"line \d+: (.*)", note)
+        is_place = SHOWN.fullmatch(note) is not None
+        if numbered and said.code.startswith("input "):
+            kept.append(numbered[1])
+        elif not is_place and (not is_shown and note.strip() != "^" or note.startswith("byte ")):
             kept.append(note)
-        is_shown = bool(whole)
+        is_shown = is_place
     said.notes = kept
 
 

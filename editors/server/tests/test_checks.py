@@ -26,8 +26,7 @@ sleep 600 &
 echo $! >>started
 wait
 """
-OLD = 'bb: source want, line 11, column 12: "tasks" is no name here; in scope: task\n  | line 31 of the input\n  | x\n  |   ^\n'
-NEW = 'input:31:12: error[compile 1]: "tasks" is no name here; in scope: task\n'
+SAID = 'input:31:12: error[compile 1]: "tasks" is no name here; in scope: task\n  | source want, line 11 of %sources\n  | x\n  |   ^\n'
 FAULT = "      link here.jobs tasks;\n"
 TEXT = GARDEN.replace("      link here.jobs task;\n", FAULT)
 
@@ -71,21 +70,20 @@ def want_ended(started):
 
 
 class Checks:
-    def faults_of_both_forms(self):
-        """The word at the place, the sentence, and the number, which the older form has on standard output."""
+    def a_fault_is_at_its_word(self):
+        """The word at the place, the sentence, and the number."""
         line = TEXT[: TEXT.index(FAULT)].count("\n") + 1
         column = FAULT.index("jobs") + 1
-        for said, code in ((OLD, "compile 1"), (NEW, "compile 1")):
-            with room() as at:
-                told = said.replace("31", str(line)).replace("column 12", f"column {column}").replace(":12:", f":{column}:")
-                program = stand_in(Path(at), told, "refused compile want 11:17 1\n", 2)
-                with Client(program=program) as client:
-                    client.open(TEXT)
-                    found = client.faults()
-                    wanted = {"range": span(TEXT, "link here.<<jobs>> tasks"), "severity": 1, "source": "bb", "code": code}
-                    assert found == [{**wanted, "message": '"tasks" is no name here; in scope: task'}], found
-                assert (Path(at) / "asked").read_text() == "check\n"
-                assert (Path(at) / "input").read_text() == TEXT
+        with room() as at:
+            told = SAID.replace(":31:12:", f":{line}:{column}:")
+            program = stand_in(Path(at), told, "refused compile want 11:17 1\n", 2)
+            with Client(program=program) as client:
+                client.open(TEXT)
+                found = client.faults()
+                wanted = {"range": span(TEXT, "link here.<<jobs>> tasks"), "severity": 1, "source": "bb", "code": "compile 1"}
+                assert found == [{**wanted, "message": '"tasks" is no name here; in scope: task'}], found
+            assert (Path(at) / "asked").read_text() == "check\n"
+            assert (Path(at) / "input").read_text() == TEXT
 
     def columns_are_characters(self):
         """Behind two clefs a column of the program has two units more."""
@@ -98,14 +96,14 @@ class Checks:
 
     def faults_go_when_they_are_mended(self):
         with room() as at:
-            program = stand_in(Path(at), NEW, "refused compile want 1:1 1\n", 2)
+            program = stand_in(Path(at), SAID, "refused compile want 1:1 1\n", 2)
             with Client(options={"program": program}) as client:
                 client.open(TEXT)
                 assert len(client.faults()) == 1
                 stand_in(Path(at))
                 client.change(2, {"text": GARDEN})
                 assert client.faults(2) == []
-                stand_in(Path(at), "warning: source want: x\n")
+                stand_in(Path(at), "input: warning[find]: source want: x\n")
                 client.tell("textDocument/didSave", textDocument={"uri": URI})
                 found = client.faults(2)
                 assert [(it["severity"], it["range"]) for it in found] == [(2, span(GARDEN, "source <<want>> on"))], found
@@ -114,7 +112,7 @@ class Checks:
 
     def costs_are_told(self):
         """Costs are informations, and what parts cost is told by their words."""
-        said = "cost: source want, obviate: an event asks it once for each activation of the source that waits\n"
+        said = "input: note[cost]: source want, obviate: an event asks it once for each activation of the source that waits\n"
         with room() as at, Client(program=stand_in(Path(at), said, "want obviate ops 4 budget 4 5\nchecked 1\n")) as client:
             client.open(GARDEN)
             found = client.faults()
@@ -142,7 +140,7 @@ class Checks:
             rooms = [Path(at, it) for it in ("one", "two")]
             for number, folder in enumerate(rooms, 1):
                 folder.mkdir()
-                stand_in(folder, f"warning: source want: {number}\n")
+                stand_in(folder, f"input: warning[find]: source want: {number}\n")
             (rooms[0] / "bb").rename(rooms[0] / "railcitron")
             environment = {**os.environ, "PATH": f"{rooms[1]}:{rooms[0]}:{os.environ['PATH']}"}
             for words, wanted in (({}, "1"), ({"options": {"program": str(rooms[1] / "bb")}}, "2"), ({"program": str(rooms[1] / "bb"), "options": {"program": "none"}}, "2")):
@@ -154,7 +152,7 @@ class Checks:
         """A program of the same name that is not ours, and one whose memory ran out."""
         for output, status, why in (("", 1, "it ended with status 1"), ("hello\n", 0, "it ended with status 0"), ("", 5, "its memory ran out")):
             with room() as at:
-                program = stand_in(Path(at), "bb: x\n", output, status)
+                program = stand_in(Path(at), "input: error[lang 1]: x\n", output, status)
                 with Client(program=program) as client:
                     client.open(GARDEN)
                     assert client.faults() == []
@@ -188,7 +186,7 @@ class Checks:
                 client.open(GARDEN)
                 want(lambda: started.exists() and started.read_text().strip())
                 assert client.at("hover", place(GARDEN, "here.wa^ter +"))
-                stand_in(Path(at), "warning: source want: x\n")
+                stand_in(Path(at), "input: warning[find]: source want: x\n")
                 client.change(2, {"text": GARDEN})
                 assert len(client.faults(2)) == 1
                 want_ended(started)
