@@ -40,30 +40,8 @@ print("finish limit" if sys.argv[1:] == ["--limit", "7"] else "quiescence\nfinis
 sys.exit(3)
 """
 
-# What the program says, in its form of today and in the one that editors read, and what it means.
+# What the program says, and what it means.
 TOLD = {
-    "a source text": (
-        'bb: source hail, line 4, column 8: "hello" is no name here; in scope: it\n'
-        "  | line 7 of the input\n  |   do { say hello; }\n  |        ^\n",
-        [("error", 7, 8, "", 3)],
-    ),
-    "a document": (
-        "bb: schema: it is not JSON\n  | line 1, column 13, line 2 of the input\n  | {\"classes\":[}\n  |     ^\n",
-        [("error", 2, 13, "", 3)],
-    ),
-    "an entry": (
-        'bb: schema, classes[0]: a name is used that is not declared\n  | class "a": no class "b"\n',
-        [("error", 0, 0, "", 1)],
-    ),
-    "a header": (
-        'bb: input: its first line is not `%schema`\n  | line 23: "%sources" is there twice, first in line 12\n',
-        [("error", 23, 0, "", 1)],
-    ),
-    "a warning and a cost": (
-        "warning: source dusk, line 6, column 3, line 9 of the input: each quiescence triggers it\n"
-        "cost: source pour, obviate, line 25, column 3, line 41 of the input: an event asks it\n",
-        [("warning", 9, 3, "", 0), ("note", 41, 3, "", 0)],
-    ),
     "a line and a column": (
         'input:7:12: error[compile 1]: "hello" is no name here; in scope: it\n'
         "  | source hail, line 4 of %sources\n  |   do { say hello; }\n  |            ^\n",
@@ -130,7 +108,7 @@ def read_to_end(get):
 class WorkbenchTests:
     """Each method is a test, which fails by an `AssertionError`."""
 
-    def both_forms_of_messages_are_read(self):
+    def messages_are_read(self):
         for name, (text, expected) in TOLD.items():
             its = [(it.kind, it.line, it.column, it.number, len(it.notes)) for it in faults_of(text)]
             assert its == expected, f"{name}: {its}"
@@ -145,7 +123,7 @@ class WorkbenchTests:
         with at_work() as (_, post, _):
             found = post("check", text="%schema")
             assert (found["state"], found["faults"], found["costs"]) == ("accepted", [], "checked 7\n")
-            found = post("check", text="%refuse %tell bb: schema: it is not JSON\n  | line 1, line 2 of the input\n")
+            found = post("check", text="%refuse %tell input:2: error[schema 1]: it is not JSON\n  | line 1 of %schema\n")
             assert (found["state"], found["costs"], found["faults"][0]["line"]) == ("refused", "", 2)
 
     def a_check_that_takes_too_long_is_killed(self):
@@ -200,10 +178,10 @@ class WorkbenchTests:
 
     def a_refused_input_has_no_run(self):
         with at_work() as (_, post, get):
-            post("run", text="%refuse %tell bb: schema: no\n", cycles=7, seconds=10)
+            post("run", text="%refuse %tell input: error[schema 2]: no\n", cycles=7, seconds=10)
             state = ended(get)
             assert (state["status"], state["refused"]) == (2, "refused schema 2")
-            assert state["faults"][0]["text"] == "schema: no"
+            assert state["faults"][0]["text"] == "no"
 
     def what_is_no_bound_is_refused(self):
         with at_work() as (_, post, get):
