@@ -80,9 +80,9 @@ static int refusals_are_told(void)
     uint8_t text[] = "as it is";
     size_t len = 7;
     WANT(explains(bb_refusal, no_json, "", "refused schema 1") == 0);
-    WANT(explains(bb_explain, no_json, "", "schema: it is not JSON\n  | line 1, column 2, line 2 of the input\n  | {\n  |  ^") == 0);
+    WANT(explains(bb_explain, no_json, "", "input:2:2: error[schema 1]: it is not JSON\n  | line 1 of %schema\n  | {\n  |  ^") == 0);
     WANT(explains(bb_refusal, input, "wiegh", "refused rule weigh 8") == 0);
-    WANT(explains(bb_explain, input, "", "source weigh: there is no native of this name") == 0);
+    WANT(explains(bb_explain, input, "", "input: error[rule 8]: source weigh: there is no native of this name") == 0);
     WANT(bb_refusal(BB_S(input), BB_S("weigh"), 0, text, sizeof text, &len) == BB_NONE);
     WANT(bb_explain(BB_S(input), BB_S("weigh"), 0, text, sizeof text, &len) == BB_NONE);
     WANT(bb_refusal(BB_S(no_json), BB_S("\xff"), 0, text, sizeof text, &len) == BB_REFUSED);

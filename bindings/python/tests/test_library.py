@@ -357,11 +357,12 @@ source tidy on note { when create note; rate 10; do { with n = it as note { leav
     def test_why_an_input_is_refused(self):
         text = 'source hail on note { when create note; rate 9; do { set it.cuont = "ü"; } }'
         line, column = SCHEMA.count("\n") + 2, 1 + text.index("set it.")
-        at = f"\n  | line {line} of the input\n  | {text}\n  | {(column - 1) * ' '}^"
+        word = 1 + text.index("cuont")
+        at = f"\n  | source hail, line 1 of %sources\n  | {text}\n  | {(word - 1) * ' '}^"
         for data, refusal, begins, ends in (
-            (b"%schema\n{", "schema 1", "schema: it is not JSON\n", "\n  | line 1, column 2, line 2 of the input\n  | {\n  |  ^"),
+            (b"%schema\n{", "schema 1", "input:2:2: error[schema 1]: it is not JSON\n", "\n  | line 1 of %schema\n  | {\n  |  ^"),
             (b"\xff", "input utf8", "input: it is not UTF-8", "UTF-8"),
-            (f"{SCHEMA}%sources\n{text}\n", f"compile hail 1:{column} 1", f"source hail, line 1, column {column}: ", at),
+            (f"{SCHEMA}%sources\n{text}\n", f"compile hail 1:{column} 1", f"input:{line}:{word}: error[compile 1]: ", at),
         ):
             with self.assertRaises(railcitron.Refused) as caught:
                 railcitron.Run(data)

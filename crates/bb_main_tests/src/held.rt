@@ -111,11 +111,11 @@ fn is_refused_by(alloc: Global, input: &[u8], line: &str, message: &str) -> Resu
 fn why_an_input_is_refused(rt: HostRuntime) -> Result<(), Fail> {
     let alloc = rt.alloc();
     let message =
-        "schema: it is not JSON\n  | line 1, column 2, line 2 of the input\n  | {\n  |  ^";
+        "input:2:2: error[schema 1]: it is not JSON\n  | line 1 of %schema\n  | {\n  |  ^";
     assert!(rt; is_refused_by(alloc, b"%schema\n{", "refused schema 1", message)?);
     let message = "input: it is not UTF-8";
     assert!(rt; is_refused_by(alloc, b"\xff", "refused input utf8", message)?);
-    let message = "source price: there is no native of this name";
+    let message = "input: error[rule 8]: source price: there is no native of this name";
     assert!(rt; is_refused_by(alloc, PRICED.as_bytes(), "refused rule price 8", message)?);
     assert!(rt; why_refused(alloc, PRICED.as_bytes(), "weigh\nprice", 0)?.is_none());
     Ok(())
