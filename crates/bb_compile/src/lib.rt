@@ -6,7 +6,7 @@
 //!   part.
 //! - Callers rely on: a fault is the first of the text. Theorems about the code: the verifier accepts it
 //!   (bb_theorem_accepted), and it means what the text says (bb_theorem_meaning). Theorem about faults:
-//!   bb_theorem_judged.
+//!   bb_theorem_grammar.
 //! - Family: bb_compile_scope has the names, kinds and faults of statements; bb_compile_buffer has the code emitted so
 //!   far.
 //! - Cases: `statements`, `limits_of_parts`, `refused_sources`, `model-compiles`; tests in bb_code_tests and

@@ -5,7 +5,7 @@ use crate::heading::Severity;
 use crate::reporting::{Input, write_message};
 use bb_basis::Memory;
 use bb_board::{Board, Note, UnitsFault};
-use bb_diag_documents::{json_of, text_at};
+use bb_diag_input::documents::{json_of, text_at};
 use bb_diag_text::FirstFocus;
 use bb_refusal::InputFault;
 use bb_schema::Schema;

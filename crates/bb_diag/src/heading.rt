@@ -7,7 +7,7 @@ use bb_basis::Memory;
 use bb_board::{UnitsFault, UnitsFlaw};
 use bb_bundle::BundleFault;
 use bb_compile_scope::{CompileFault, Place};
-use bb_diag_documents::json_place;
+use bb_diag_input::documents::json_place;
 use bb_diag_text::SectionLine;
 use bb_refusal::InputFault;
 use bb_schema_classes::{SchemaFault, SchemaFlaw};

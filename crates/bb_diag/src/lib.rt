@@ -5,8 +5,8 @@
 //!   are refused.
 //! - Callers rely on: messages are for people. A fault has its location only as numbers, so notes are looked up in the
 //!   input, which is read again.
-//! - Family: bb_diag_syntax and bb_diag_meaning write the messages on texts, bb_diag_documents the notes on documents;
-//!   bb_diag_place shows pieces of an input; bb_main prints reports.
+//! - Family: bb_diag_source and bb_diag_meaning write the messages on texts, bb_diag_input the notes on documents;
+//!   bb_diag_input shows pieces of an input; bb_main prints reports.
 //! - Cases: `sentences`.
 #![tactic(auto)]
 

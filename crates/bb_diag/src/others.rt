@@ -6,7 +6,7 @@ use crate::reporting::{Context, write_fault, write_reason};
 use bb_basis::{Memory, Text};
 use bb_compile::{CompileFault, LangFault, Place, SourceText, compile, parse};
 use bb_diag_meaning::{Reason, explain_clauses};
-use bb_diag_syntax::explain_operator;
+use bb_diag_source::explain_operator;
 use bb_diag_text::{Operators, Piece, Pieces, Token, TokenKind};
 use bb_refusal::InputFault;
 use bb_schema::Schema;

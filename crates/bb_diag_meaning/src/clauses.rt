@@ -3,7 +3,7 @@
 use crate::unknown::{write_no_class, write_no_slot_of, write_no_space};
 use bb_basis::Memory;
 use bb_compile_scope::{ClassId, Place};
-use bb_diag_scope::{Judge, until_end, word_at};
+use bb_diag_source::scope::{Judge, until_end, word_at};
 use bb_diag_text::{Piece, Token, source_tokens};
 use bb_schema::Schema;
 use std::alloc::Global;

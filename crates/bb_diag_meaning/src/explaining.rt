@@ -7,7 +7,7 @@ use crate::units::{write_gone, write_space, write_wrong_class};
 use crate::unknown::write_unknown;
 use bb_basis::Memory;
 use bb_compile_scope::{Place, TextFlaw};
-use bb_diag_scope::{Judge, Statement};
+use bb_diag_source::scope::{Judge, Statement};
 use bb_diag_text::{Piece, source_tokens};
 use bb_schema::Schema;
 use std::alloc::Global;

@@ -6,7 +6,7 @@
 //!   fault's number; `explain_clauses`, the message on the first clause of a source that does not fit.
 //! - Callers rely on: messages are for people. The statement is examined again, by its tokens and by what the names
 //!   before it hold; if nothing wrong is found, there is no message.
-//! - Family: bb_diag_scope has what is known at a statement; bb_compile_scope has the rules of slots and kinds.
+//! - Family: bb_diag_source has what is known at a statement; bb_compile_scope has the rules of slots and kinds.
 //! - Cases: `sentences`.
 #![tactic(auto)]
 

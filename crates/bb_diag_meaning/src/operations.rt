@@ -4,7 +4,7 @@ use crate::unknown::{is_relation, set_with};
 use bb_basis::Memory;
 use bb_code::Kind;
 use bb_compile_scope::{assigned, class_of, equality, link_slot, value_slot};
-use bb_diag_scope::{
+use bb_diag_source::scope::{
     COMPARISONS, Judge, LOGIC, SUMS, kind_of, position_of, word_at, write_kind, write_value,
 };
 use bb_diag_text::{Token, TokenKind};

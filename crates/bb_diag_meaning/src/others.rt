@@ -5,7 +5,7 @@ use bb_basis::{Memory, Names};
 use bb_code::{
     LOCAL_LIMIT, NODE_LIMIT, OP_LIMIT, OPERAND_LIMIT, QUERY_LIMIT, SAID_LIMIT, TEXT_COUNT_LIMIT,
 };
-use bb_diag_scope::{Judge, Statement, position_of, word_at};
+use bb_diag_source::scope::{Judge, Statement, position_of, word_at};
 use bb_diag_text::{Token, TokenKind, write_quoted};
 use std::fmt::Write;
 

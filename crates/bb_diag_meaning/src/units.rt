@@ -4,7 +4,7 @@ use crate::unknown::place_of;
 use bb_basis::Memory;
 use bb_code::Kind;
 use bb_compile_scope::{ClassId, Place, link_slot};
-use bb_diag_scope::{Judge, Statement, admitted_names, owning_path, word_at, write_names};
+use bb_diag_source::scope::{Judge, Statement, admitted_names, owning_path, word_at, write_names};
 use bb_diag_text::Token;
 use std::fmt::Write;
 

@@ -2,7 +2,7 @@
 
 use bb_basis::Memory;
 use bb_compile_scope::{ClassId, Place};
-use bb_diag_scope::{
+use bb_diag_source::scope::{
     Judge, Statement, class_names, dim_names, label_names, slot_names, space_names, word_at,
     write_names,
 };

@@ -6,8 +6,8 @@
 //!   begin; `Operators`, the operators of other languages in a piece; `FirstFocus`, a focus among the initial units.
 //! - Callers rely on: the parser (bb_lang) decides what a text is; the grammar here only serves messages, and a `Spot`
 //!   expects nothing if this grammar lacks the tokens before it.
-//! - Family: bb_diag_place shows pieces of an input, and is handed on here; bb_diag_syntax writes sentences from a `Spot`;
-//!   bb_diag_scope and bb_lint_parts find locations by tokens.
+//! - Family: bb_diag_input shows pieces of an input, and is handed on here; bb_diag_source writes sentences from a `Spot`;
+//!   bb_diag_source and bb_lint_parts find locations by tokens.
 //! - Cases: `sentences`.
 #![tactic(auto)]
 
@@ -24,7 +24,7 @@ mod token;
 mod value_rules;
 mod walk;
 
-pub use bb_diag_place::{
+pub use bb_diag_input::{
     Section, SectionLine, begin_line, fault_at, line_at, note_header, write_excerpt,
     write_excerpt_at, write_note, write_phrase, write_quoted, write_shown, write_whole_line,
 };

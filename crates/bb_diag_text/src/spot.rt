@@ -1,4 +1,4 @@
-//! What is known at a location of a text. Messages (bb_diag_syntax) are written from it.
+//! What is known at a location of a text. Messages (bb_diag_source) are written from it.
 
 use crate::pieces::Piece;
 use crate::symbol::Due;

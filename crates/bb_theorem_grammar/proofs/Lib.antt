@@ -42,3 +42,4 @@ pub mod FoundClauses
 pub mod FoundSources
 -- what a call answers
 pub mod GrammarLemmas
+pub mod judged_lemmas

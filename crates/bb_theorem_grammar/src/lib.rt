@@ -3,6 +3,7 @@
 //! calls this crate.
 #![tactic(auto)]
 
+pub mod judged;
 mod laws;
 mod reading;
 

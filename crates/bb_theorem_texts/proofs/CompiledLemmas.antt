@@ -7,8 +7,8 @@ use Rattle.bb_bundle.specs.declared.draft.SourceDraft.{SourceDraft}
 use Rattle.bb_compile.specs.Compiled.{compiled}
 use Rattle.bb_compile_scope.specs.declared.fault.CompileFault.{CompileFault}
 use Rattle.bb_compile_scope.specs.declared.fault.CompileFault.TheVariants.{Memory}
-use Rattle.bb_theorem_judged.specs.Judgement.{IsFirst}
-use Rattle.bb_theorem_judged.specs.Sources.{source_faults, extents, AreJudged, IsTooLarge}
+use Rattle.bb_theorem_grammar.specs.judged.Judgement.{IsFirst}
+use Rattle.bb_theorem_grammar.specs.judged.Sources.{source_faults, extents, AreJudged, IsTooLarge}
 
 module _ (schema : Schema) (text : SourceText) (judged : AreJudged (extents schema text) (source_faults schema text) (compiled schema text)) where
   pub has_no_fault : (draft : SourceDraft Code) → compiled schema text ≡ Ok draft → source_faults schema text ≡ []

@@ -3,13 +3,13 @@
 
 ghost use Rattle.std.specs.Prelude.{◌≡◌, ◌⊎◌, [], IfOk, IfErr};
 ghost use Rattle.bb_compile_scope.specs.declared.fault.CompileFault.TheVariants.{Memory as OutOfMemory};
-ghost use Rattle.bb_theorem_judged.specs.Judgement.{IsFirst};
-ghost use Rattle.bb_theorem_judged.specs.Sources.{source_faults, extents, IsTooLarge};
+ghost use Rattle.bb_theorem_grammar.specs.judged.Judgement.{IsFirst};
+ghost use Rattle.bb_theorem_grammar.specs.judged.Sources.{source_faults, extents, IsTooLarge};
 ghost use Rattle.bb_theorem_meaning.specs.Sources.{AreAccepted, AreMeant, within_budget};
 
 use bb_compile::{CompileFault, SourceCode, SourceText, compile};
 use bb_schema::Schema;
-use bb_theorem_judged::refusals_are_judged;
+use bb_theorem_grammar::judged::refusals_are_judged;
 use bb_theorem_meaning::{compiled_source_is_accepted, compiled_source_means_its_text};
 use std::alloc::Global;
 

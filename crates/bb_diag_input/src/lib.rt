@@ -1,0 +1,21 @@
+//! Where a message is in an input, and what it shows of that: excerpts with a caret, quoted names, and the byte at which a
+//! document stops being JSON.
+//!
+//! - In: texts of an input, and the line and column, or the byte, of a fault.
+//! - Out: `write_excerpt`, `write_quoted` and others, which append to a message; `Section` and `SectionLine`, with which a
+//!   message begins; `fault_at`, the first byte at which a document stops being JSON.
+//! - Callers rely on: control characters of an input are shown as blanks.
+//! - Family: bb_diag_text adds tokens, and hands these on.
+//! - Cases: `sentences`.
+#![tactic(auto)]
+
+pub mod documents;
+mod excerpt;
+mod scan;
+mod section;
+mod words;
+
+pub use excerpt::{line_at, write_excerpt, write_excerpt_at, write_whole_line};
+pub use scan::fault_at;
+pub use section::{Section, SectionLine, note_header};
+pub use words::{begin_line, write_note, write_phrase, write_quoted, write_shown};
