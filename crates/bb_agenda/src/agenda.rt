@@ -1,5 +1,5 @@
-//! The agenda. The functions here read it; those in `changes` change it. A run (bb_run) adds the activations that
-//! events trigger and removes those that a cycle executes.
+//! The agenda. The functions here read it; the functions in `changes` change it. A run (bb_run) adds the activations
+//! that events trigger and removes the activations that a cycle executes.
 
 ghost use Rattle.std.specs.Prelude.{◌≡◌, Contains, IfSome, IsSome, Some, option_map};
 ghost use Rattle.bb_agenda.specs.Agenda.{no_activations, pending_of, is_full, number_of, numbers_pending, numbers_for, numbers_on};
@@ -29,8 +29,8 @@ pub const PENDING_LIMIT: usize = 65_536;
 pub const NUMBER_LIMIT: u64 = (1 << 63) - 1;
 
 /// All activations ever added, each under its number; which of them are pending; the foci that are set; and whether
-/// memory was refused to a change (GBBopen Reference Manual, Agenda Shell; foci are of this project). Once it was,
-/// every change is refused. Of activations no longer pending, the agenda keeps only how many there were and which were
+/// memory was refused to a change (GBBopen Reference Manual, Agenda Shell; foci are this project's). Once it was, every
+/// change is refused. Of activations no longer pending, the agenda keeps only how many there were and which were
 /// obviated.
 pub struct Agenda {
     // How many activations were added.
@@ -194,7 +194,7 @@ impl Agenda {
     }
 
     /// Does nothing; its contract states the invariant: the numbers of pending activations ascend, and an activation is
-    /// pending exactly if its status says so.
+    /// pending exactly if its status states that it is.
     pub fn fits(&self)
         ensures { Fits self.now }
     {

@@ -8,7 +8,7 @@ use bb_schema::UnitId;
 use std::collections::btree_set::Range;
 use std::marker::Model;
 
-/// Where the number of an activation is in an ordered set: behind a unit and a source.
+/// The position of the number of an activation in an ordered set: after a unit and a source.
 pub(crate) type Place = ((UnitId, u32), u64);
 
 /// Numbers of pending activations, in ascending order.
@@ -27,7 +27,7 @@ impl<'a> Model for Numbers<'a> {
 }
 
 impl<'a> Numbers<'a> {
-    /// Returns the numbers of these places.
+    /// Returns the numbers at these positions.
     pub(crate) fn of(places: Range<'a, Place>) -> Numbers<'a>
         ensures { result ≡ map number_at places.entry }
     {

@@ -1,4 +1,4 @@
-//! The order in which the pending activations of each source are executed, by their ranks. waiting.rt keeps it.
+//! The execution order of the pending activations of each source, by their ranks. waiting.rt keeps it.
 
 ghost use Rattle.std.specs.Prelude.{◌≡◌, ◌<◌, ℕ, length, OnOk, OnErr};
 ghost use Rattle.bb_agenda.specs.declared.rank.Rank.{Rank as Ranked};

@@ -1,4 +1,5 @@
-//! The rank of a pending activation among those of its source. order.rt keeps the ranks of each source in order.
+//! The rank of a pending activation among the pending activations of its source. order.rt keeps the ranks of each
+//! source in order.
 
 ghost use Rattle.std.specs.Prelude.{◌≡◌};
 ghost use Rattle.bb_agenda.specs.proving.Ranks.{rank_of};
@@ -7,7 +8,7 @@ use crate::focusing::Activation;
 use std::cmp::Reverse;
 
 /// The rank of an activation: first the higher base, then the lower number. A focus matches all activations of a source
-/// or none of them, so ranks are in the order of ratings.
+/// or none of them; therefore ranks are in the order of ratings.
 #[derive(Clone, Copy, PartialEq, Eq, PartialOrd, Ord)]
 pub(crate) struct Rank {
     pub(crate) base: Reverse<i64>,

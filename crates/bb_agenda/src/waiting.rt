@@ -1,5 +1,5 @@
-//! The pending activations of an agenda, found by number, source or unit, and in the order in which those of a source
-//! are executed, without scanning them all. agenda.rt keeps them.
+//! The pending activations of an agenda, found by number, source or unit, and for each source in execution order,
+//! without scanning them all. agenda.rt keeps them.
 
 ghost use Rattle.std.specs.Prelude.{◌≡◌, ◌<◌, [], ◌∷◌, ◌++◌, map, filter, find, length, is_some, OnOk, OnErr};
 ghost use Rattle.std.specs.Prelude.{IfSome, option_map};

@@ -5,7 +5,7 @@ ghost use Rattle.std.specs.Prelude.{◌≡◌, [], ◌∷◌, ◌++◌, length, 
 use std::alloc::{AllocError, Global};
 use std::marker::Model;
 
-/// Items in order. Contracts see only their list, not where it is in memory.
+/// Items in order. Contracts see only their list, not its location in memory.
 #[derive(Debug, Drop)]
 pub struct Items<T> {
     inner: Vec<T>,

@@ -3,7 +3,7 @@
 //!
 //! - In: nothing. It is the lowest crate.
 //! - Out: `Text`, `Names`, `Table`, `Items`, `IdSet`, `Memory`, `Whole` and `is_name`; in `specs/Results` `Gives`,
-//!   `try_map` and `try_fold`, in which most contracts of the crates above are written.
+//!   `try_map` and `try_fold`, which most contracts of the crates above use.
 //! - Callers rely on: contracts see a `Text`, an `Items` and an `IdSet` as plain lists. Callers may use all of
 //!   `proofs/`.
 //! - Tests: bb_board_parts_tests.

@@ -8,8 +8,8 @@ use std::alloc::{AllocError, Global};
 use std::marker::Model;
 use std::rc::Rc;
 
-/// A text inside a larger value. Clones share it, so cloning copies no bytes. Contracts see only its bytes, not where
-/// they are in memory.
+/// A text inside a larger value. Clones share it: cloning copies no bytes. Contracts see only its bytes, not their
+/// location in memory.
 #[derive(Debug, Drop)]
 pub struct Text {
     inner: Rc<String>,

@@ -1,5 +1,5 @@
 //! The blackboard and what can be read of it. `changes` has what changes it. The machine calls both (bb_machine), and a
-//! run takes the notes (bb_run).
+//! run removes the notes (bb_run).
 
 ghost use Rattle.std.specs.Prelude.{◌≡◌, ◌≤◌, ◌↔◌, Ok, Some, length, map, slice_get, IfOk, IsTrue, IsSome};
 ghost use Rattle.bb_pattern.specs.Fits.{query_fits};
@@ -114,7 +114,7 @@ impl Board {
         self.schema.share()
     }
 
-    /// Tests whether no unit was ever created and no note is left to take.
+    /// Tests whether no unit was ever created and no note is left to remove.
     pub fn fresh(&self) -> bool
         ensures { result ≡ is_fresh self.now }
     {
@@ -135,14 +135,14 @@ impl Board {
         self.state.units.list(self.alloc)
     }
 
-    /// Tests whether a number is that of a live unit.
+    /// Tests whether a number belongs to a live unit.
     pub fn live(&self, unit: UnitId) -> bool
         ensures { result ≡ is_live self.now.world.units unit }
     {
         self.state.units.live(unit)
     }
 
-    /// Tests whether a number is 0 or was given to a unit that, if it is still live, is of the class or one below it.
+    /// Tests whether a number is 0 or was given to a unit that, if it is still live, has the class or one below it.
     pub fn was(&self, unit: UnitId, class: ClassId) -> bool
         ensures { result ≡ was self.now.schema self.now.world unit class }
     {
@@ -182,7 +182,7 @@ impl Board {
         self.state.units.get(unit, slot)
     }
 
-    /// Tests whether a number is that of a live unit whose class has the ordinary slot.
+    /// Tests whether a number belongs to a live unit whose class has the ordinary slot.
     pub fn has(&self, unit: UnitId, slot: SlotId) -> bool
         ensures value { IsTrue result ↔ IsSome (value_of self.now.world.units unit slot) }
         ensures listed { result ≡ has_slot self.now.world.units unit slot }
@@ -190,8 +190,8 @@ impl Board {
         self.state.units.has(unit, slot)
     }
 
-    /// Tests whether a slot is an ordinary one of the schema and can hold a value: one of its kind, where a text has at
-    /// most 65,535 bytes, a label is in the slot's set, and an interval does not end before it begins.
+    /// Tests whether a slot is an ordinary one of the schema and can hold a value: the value has its kind, a text has
+    /// at most 65,535 bytes, a label is in the slot's set, and an interval does not end before it begins.
     pub fn can_hold(&self, slot: SlotId, value: &Value) -> bool
         ensures { result ≡ can_hold (layout_of self.now.schema) slot value.now }
     {
@@ -199,7 +199,7 @@ impl Board {
     }
 
     /// Checks whether a unit may enter a space. Otherwise returns the first reason: `Deleted` if the unit is not live,
-    /// `Space` if the space does not exist or does not take units of its class.
+    /// `Space` if the space does not exist or does not accept units of its class.
     pub fn may_enter(&self, unit: UnitId, space: SpaceId) -> Result<(), Reason>
         ensures { result ≡ may_enter self.now.schema self.now.world unit space }
     {
@@ -314,7 +314,7 @@ impl Board {
 
     /// Checks whether a unit may be linked to another by a slot, which unlinking needs too. Otherwise returns the first
     /// reason: `Deleted` if one of them is not live, `Slot` if the unit's class has no such link slot, `LinkClass` if
-    /// the other's class is neither the one that the slot leads to nor below it.
+    /// the other's class is neither the slot's target class nor below it.
     pub fn may_link(&self, unit: UnitId, slot: SlotId, partner: UnitId) -> Result<(), Reason>
         ensures { result ≡ may_link self.now.schema self.now.world unit slot partner }
     {
@@ -332,8 +332,8 @@ impl Board {
 
     /// Does nothing. Its contract states what holds of the blackboard at any time: its units and links are sound; units
     /// have the slots of their classes; each pair of a couple joins live units of classes that have its slots; members
-    /// of spaces are live, of classes that these take, and the spaces know their present values; and the notes not yet
-    /// taken are of units that are or were live, and of classes, slots, spaces and labels of the schema.
+    /// of spaces are live, of classes that these accept, and the spaces know their present values; and the notes not
+    /// yet removed belong to units that are or were live, and to classes, slots, spaces and labels of the schema.
     pub fn fits(&self)
         ensures { Fits self.now.schema self.now.world }
     {

@@ -1,4 +1,4 @@
-//! The steps of a blackboard's state by which a unit is deleted with its parts. `Board` calls `delete`.
+//! The steps of a blackboard's state that delete a unit with its parts. `Board` calls `delete`.
 
 ghost use Rattle.std.specs.Prelude.{◌≡◌, ◌<◌, ◌++◌, [], true, length, filter, IsTrue, IfOk, OnOk, OnErr};
 ghost use Rattle.std.specs.List.{flat_map, fold, list_all};
@@ -225,8 +225,8 @@ impl State {
         Ok(found.rising())
     }
 
-    /// Deletes a live unit with its parts: each loses its links, leaves its spaces and is gone. Notes all that. An error
-    /// changes nothing.
+    /// Deletes a live unit with its parts: each loses its links, leaves its spaces and is gone. Notes all that. An
+    /// error changes nothing.
     pub(crate) fn delete(
         &mut self,
         alloc: Global,

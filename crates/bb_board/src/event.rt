@@ -1,4 +1,4 @@
-//! Events of a blackboard. Sources wait for them (bb_rules), and a run processes them (bb_run).
+//! Events of a blackboard. Clauses of sources match them (bb_rules), and a run processes them (bb_run).
 
 ghost use Rattle.std.specs.Prelude.{◌≡◌};
 ghost use Rattle.bb_board.specs.Events.{kind_of, unit_of};
@@ -25,7 +25,7 @@ pub enum Change {
     Leave(SpaceId),
 }
 
-/// The kind of a change, which sources wait for: the change without a partner.
+/// The kind of a change, which clauses of sources name: the change without a partner.
 #[derive(Clone, Copy, Debug, PartialEq, Eq)]
 pub enum ChangeKind {
     /// A unit was created.
@@ -65,7 +65,7 @@ impl Change {
 /// Shell's quiescence).
 #[derive(Clone, Copy, Debug, PartialEq, Eq)]
 pub enum Event {
-    /// A change of a unit, which was of this class at that time.
+    /// A change of a unit, which had this class at that time.
     Change {
         unit: UnitId,
         class: ClassId,

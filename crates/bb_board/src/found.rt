@@ -12,7 +12,7 @@ use std::alloc::Global;
 use std::collections::BTreeSet;
 use std::marker::Model;
 
-/// Distinct units, in the order in which they were found. Contracts see the list.
+/// Distinct units, in the order found. Contracts see the list.
 #[derive(Drop)]
 pub(crate) struct Found {
     units: Vec<UnitId>,
@@ -41,7 +41,7 @@ impl Found {
         }
     }
 
-    /// Returns the unit at a place in that order.
+    /// Returns the unit at an index in that order.
     pub(crate) fn get(&self, place: usize) -> Option<UnitId>
         ensures { result ≡ slice_get self.now place }
     {

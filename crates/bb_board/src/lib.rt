@@ -1,13 +1,13 @@
-//! The blackboard: its units, their links, their spaces, what happens on it, and the document of its first units.
+//! The blackboard: its units, their links, their spaces, what happens on it, and the document of its initial units.
 //!
-//! - In: a `Schema`, the text of a document of first units, and changes.
-//! - Out: `Board::load`, or the first `UnitsFault` with the place of its entry; and the notes of each change.
+//! - In: a `Schema`, the text of a document of initial units, and changes.
+//! - Out: `Board::load`, or the first `UnitsFault` with the position of its entry; and the notes of each change.
 //! - Callers rely on: a blackboard always fits its schema (definition `Fits`): links have both ends, no deleted unit is
-//!   linked or in a space, and values are of their slots' kinds. Each change is the definition's, or it is refused and
+//!   linked or in a space, and values have their slots' kinds. Each change is the definition's, or it is refused and
 //!   changes nothing.
-//! - Parts: `state` is what a blackboard holds, and each change is a step of it (`state`, `links`, `members`,
+//! - Parts: `state` has the contents of a blackboard, and each change is a step of it (`state`, `links`, `members`,
 //!   `deleting`). `board` adds the schema, and refuses every change once memory was refused to one.
-//! - Cases: `units`, `links`, `linking`, `spaces`, `values`, `documents` (first units); tests in bb_board_tests and
+//! - Cases: `units`, `links`, `linking`, `spaces`, `values`, `documents` (initial units); tests in bb_board_tests and
 //!   bb_board_parts_tests.
 #![tactic(auto)]
 

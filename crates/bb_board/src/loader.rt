@@ -1,5 +1,5 @@
-//! Reads the first units of a blackboard, their links and the members of its spaces from a JSON document. `Board::load`
-//! calls it.
+//! Reads the initial units of a blackboard, their links and the members of its spaces from a JSON document.
+//! `Board::load` calls it.
 
 ghost use Rattle.std.specs.Prelude.{◌≡◌, ◌<◌, false, length, map, IfOk, OnOk};
 ghost use Rattle.bb_basis.specs.Results.{Gives, map_err, try_fold_at};
@@ -195,7 +195,7 @@ fn document(alloc: Global, text: &str) -> Result<UnitsDocument, UnitsFault>
     }
 }
 
-/// Reads a JSON document of first units into a new blackboard, which shares the schema of the one given: creates the
+/// Reads a JSON document of initial units into a new blackboard, which shares the schema of the one given: creates the
 /// units, links them and lets them enter spaces. Otherwise returns the document's first fault.
 #[tactic(auto, unfolding(crate::specs::Load::load))]
 pub(crate) fn read_units(alloc: Global, given: &Board, text: &str) -> Result<Board, UnitsFault>

@@ -1,4 +1,4 @@
-//! The steps of a blackboard's state by which units enter and leave spaces. `Board` calls them.
+//! The steps of a blackboard's state that let units enter and leave spaces. `Board` calls them.
 
 ghost use Rattle.std.specs.Prelude.{◌≡◌, ◌<◌, ◌^◌, ◌++◌, IsTrue, OnOk, OnErr, length};
 ghost use Rattle.bb_units.specs.Units.{is_live};

@@ -12,9 +12,9 @@ pub enum Reason {
     Slot,
     /// The slot can't hold the value.
     Kind,
-    /// The partner is not of the class that the link slot leads to.
+    /// The partner is not of the link slot's target class.
     LinkClass,
-    /// The space does not exist, or does not take units of the class.
+    /// The space does not exist, or does not accept units of the class.
     Space,
 }
 

@@ -1,4 +1,4 @@
-//! The state of a blackboard, with the steps that create a unit, set a slot, say values and take the notes. A `Board`
+//! The state of a blackboard, with the steps that create a unit, set a slot, say values and remove the notes. A `Board`
 //! keeps a state, and each of its changes is a step.
 
 ghost use Rattle.std.specs.Prelude.{◌≡◌, ◌<◌, ◌^◌, ℕ, length, IfOk, IsTrue, OnOk, OnErr};
@@ -105,8 +105,8 @@ impl State {
         }
     }
 
-    /// Sets a slot to a value that it takes, tells the unit's spaces that read the slot, and notes it. The unit's other
-    /// spaces know its present values already. An error changes nothing.
+    /// Sets a slot to a value that it accepts, reports the value to the unit's spaces that read the slot, and notes it.
+    /// The unit's other spaces know its present values already. An error changes nothing.
     pub(crate) fn set(
         &mut self,
         alloc: Global,

@@ -1,4 +1,4 @@
-//! Why a document of first units is refused. `Board::load` returns it, and a refusal line has its number (bb_shell).
+//! Why a document of initial units is refused. `Board::load` returns it, and a refusal line has its number (bb_shell).
 
 ghost use Rattle.std.specs.Prelude.{◌≡◌};
 ghost use Rattle.bb_basis.specs.Results.{map_err};
@@ -12,13 +12,13 @@ use bb_units::CreateFault;
 use std::alloc::{AllocError, AllocFailed};
 use thiserror::Error;
 
-/// What is wrong with a document of first units, or with an entry of it.
+/// What is wrong with a document of initial units, or with an entry of it.
 #[derive(Clone, Copy, Debug, PartialEq, Eq, Error)]
 pub enum UnitsFlaw {
     /// The text is not JSON.
     #[error("the units document is not JSON")]
     Json,
-    /// The JSON does not have the form of first units: another key, a missing one, or a value of another form.
+    /// The JSON does not have the form of initial units: another key, a missing one, or a value of another form.
     #[error("the units document has not the form of first units")]
     Shape,
     /// An entry refers to something that does not exist.
@@ -33,7 +33,7 @@ pub enum UnitsFlaw {
     /// A unit is not of the class that a link slot asks for.
     #[error("a unit is not of the class that a link slot asks for")]
     LinkClass,
-    /// A unit is of a class that a space does not take.
+    /// A unit has a class that a space does not accept.
     #[error("a unit is of a class that a space does not take")]
     Space,
     /// No more units can be created.
@@ -59,10 +59,10 @@ impl UnitsFlaw {
     }
 }
 
-/// Why a document of first units is refused: the first flaw met in reading it, and the place of the flawed entry.
+/// Why a document of initial units is refused: the first flaw met in reading it, and the position of the flawed entry.
 #[derive(Clone, Copy, Debug, PartialEq, Eq, Error)]
 pub enum UnitsFault {
-    /// The flaw of the entry at the place. A text that is not JSON has its flaw at the whole document.
+    /// The flaw of the entry at the position. A text that is not JSON has its flaw at the whole document.
     #[error("{flaw}")]
     At {
         flaw: UnitsFlaw,
@@ -91,7 +91,7 @@ impl UnitsFault {
         matches!(self, UnitsFault::Memory)
     }
 
-    /// Makes a fault of what is read, as a whole.
+    /// Makes a fault of the value that is read, as a whole.
     pub(crate) fn here(flaw: UnitsFlaw) -> UnitsFault
         ensures { result ≡ here flaw }
     {
@@ -115,7 +115,7 @@ impl UnitsFault {
     }
 }
 
-/// Returns the answer for an entry of a list, with the place of a fault seen from the value that has the list.
+/// Returns the answer for an entry of a list, with the position of a fault seen from the value that has the list.
 pub(crate) fn placed<T>(
     answer: Result<T, UnitsFault>,
     list: ListKey,

@@ -66,9 +66,9 @@ fn document(alloc: Global, listing: &Listing<'_>) -> Result<Json, Memory>
 
 /// Writes the contents of a blackboard as a document of initial units (docs/users/formats/inputs.md): an entry for each
 /// live unit, with its values that aren't defaults; for each link, association by association, in the order of linking;
-/// and for each space that a unit is in. A fresh blackboard of the same schema that loads the document has the same
-/// units, links and members. Its units are numbered from 1 in the same order, so they keep their numbers if no number
-/// below the next one is missing. Notes are not written. Fails only if memory runs out.
+/// and for each membership of a unit in a space. A fresh blackboard of the same schema that loads the document has the
+/// same units, links and members. Its units are numbered from 1 in the same order; therefore they keep their numbers if
+/// no number below the next one is missing. Notes are not written. Fails only if memory runs out.
 pub fn units_document(alloc: Global, view: &View<'_>) -> Result<String, Memory>
     ensures text { IfOk result (λ text. string_bytes text ≡ units_text view.now) }
     ensures json { IfOk result (λ text. read (string_bytes text) ≡ Some (units_data view.now)) }

@@ -1,4 +1,4 @@
-//! The values that a unit's entry gives for slots: those that aren't defaults. `document.rt` puts them into the entry.
+//! The values given for slots in a unit's entry: all values except defaults. `document.rt` puts them into the entry.
 
 ghost use Rattle.std.specs.Prelude.{◌≡◌, IfOk, OnOk, option_map};
 ghost use Rattle.std.specs.List.{fold};

@@ -89,7 +89,7 @@ impl<'a> Listing<'a> {
         &self.live
     }
 
-    /// Returns the name of a unit: one more than the count of live units with lower numbers, in decimal.
+    /// Returns the name of a unit: 1 plus the count of live units with lower numbers, in decimal.
     pub(crate) fn name(&self, alloc: Global, unit: UnitId) -> Result<Json, Memory>
         ensures { IfOk result (λ json. view json ≡ string (name_of self.now unit)) }
     {

@@ -13,7 +13,7 @@ use bb_schema_classes::{LabelId, LabelSetId, Value};
 use serde_json::{Value as Json, json};
 use std::alloc::Global;
 
-/// Returns a text as JSON, an empty one if there is none.
+/// Returns a text as JSON; an empty text for `None`.
 pub(crate) fn text_json(alloc: Global, text: Option<&str>) -> Result<Json, Memory>
     ensures { IfOk result (λ json. view json ≡ name_data (option_map (λ t. t.now) text.entry)) }
 {

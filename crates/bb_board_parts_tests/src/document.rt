@@ -1,4 +1,4 @@
-//! Tests of the two documents: what is read from each, with enough memory.
+//! Tests of the two documents: the values read from each, with enough memory.
 
 use bb_schema_form::{ClassEntry, DefaultEntry, Document, GivenValue, UnitsDocument};
 use std::test::Fail;

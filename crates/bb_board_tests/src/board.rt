@@ -30,7 +30,7 @@ fn empty(alloc: Global) -> Result<Board, Fail> {
     Ok(Board::new(alloc, Schema::read(alloc, SCHEMA)?)?)
 }
 
-/// Returns what a fresh blackboard answers to a document of initial units.
+/// Returns the result of loading a document of initial units into a fresh blackboard.
 pub(crate) fn load(board: &mut Board, text: &str) -> Result<(), UnitsFault> {
     if !board.fresh() {
         return Err(UnitsFault::Memory);

@@ -81,7 +81,7 @@ pub(crate) fn kinds_of(alloc: Global, operands: &[DimValue]) -> Result<Items<Ope
     }
 }
 
-/// Returns what a query answers.
+/// Returns the result of a query.
 pub(crate) fn found(
     alloc: Global,
     board: &Board,

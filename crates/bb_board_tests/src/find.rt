@@ -1,4 +1,4 @@
-//! A test of what queries find on a blackboard after each of many changes, compared with a scan of what it was told.
+//! A test of what queries find on a blackboard after each of many changes, compared with a scan of the given data.
 
 use crate::board_spaces::{enter, found, leave, set};
 use crate::pattern::{is, not, ordered};

@@ -1,5 +1,6 @@
 //! Drafts: sources whose names are texts, not looked up yet. The parser of bundles and the compiler (bb_compile) make
-//! them with a `Code` for each part, bb_shell turns the codes into `Lowered` ones, and bb_rules makes sources of them.
+//! them with a `Code` for each part, bb_shell translates the codes into `Lowered` ones, and bb_rules builds sources
+//! from them.
 
 ghost use Rattle.std.specs.Prelude.{◌≡◌};
 ghost use Rattle.bb_bundle.specs.Drafts.{no_parts, with_obviate, with_require, with_retrigger, with_revalidate};

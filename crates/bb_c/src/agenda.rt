@@ -8,8 +8,8 @@ use crate::run::Run;
 use crate::status::{MEMORY, MISUSE, NONE, OK, given};
 use std::alloc::Global;
 
-/// Writes as many numbers of the pending activations as `to` has room for, ascending, and how many there are. Returns 0;
-/// 1 if the run is finished; 5 if memory ran out; 9 if there is no run.
+/// Writes the numbers of the pending activations, ascending, as far as `to` can hold them, and their count. Returns 0;
+/// 1 if the run is finished; 5 if memory ran out; 9 if the run does not exist.
 #[unsafe(no_mangle)]
 pub extern "C" fn bb_pending(alloc: Global, run: &mut Run, to: &mut [u64], count: &mut usize) -> u8
     ensures told { Looks run.old.sitting pending_of
@@ -29,8 +29,9 @@ pub extern "C" fn bb_pending(alloc: Global, run: &mut Run, to: &mut [u64], count
     }
 }
 
-/// Writes the unit, the base and the rating of the pending activation with a number, as much of its source's name as `to`
-/// has room for, and the number of bytes of the name. A unit of 0 is none. Returns 1 if the activation is not pending.
+/// Writes the unit, the base and the rating of the pending activation with a number, as much of its source's name as
+/// `to` can hold, and the number of bytes of the name. A unit of 0 means no unit. Returns 1 if the activation is not
+/// pending.
 #[unsafe(no_mangle)]
 pub extern "C" fn bb_activation(
     alloc: Global,

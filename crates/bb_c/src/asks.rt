@@ -1,4 +1,4 @@
-//! The calls that gather asks. `bb_post` posts them, or `bb_answer` answers with them.
+//! The calls that gather asks. `bb_post` posts them, or `bb_answer` uses them as the answer for a native.
 
 ghost use Rattle.std.specs.Prelude.{◌≡◌, ◌≤ℤ◌, ◌⊎◌, IfOk, IfErr, Some};
 ghost use Rattle.std.specs.Str.{IsUtf8};
@@ -43,7 +43,7 @@ fn gather(alloc: Global, run: &mut Run, ask: Ask) -> u8
 }
 
 /// Asks for a new unit of a class. Like all calls that ask, it returns 0; 2 if a name is not UTF-8; 5 if memory ran
-/// out; 9 if there is no run.
+/// out; 9 if the run does not exist.
 #[unsafe(no_mangle)]
 pub extern "C" fn bb_ask_new(alloc: Global, run: &mut Run, class_name: &[u8]) -> u8
     ensures { Asks (IsUtf8 class_name.now) (New class_name.now) run.old.sitting run.new.sitting result }
@@ -231,7 +231,7 @@ pub extern "C" fn bb_ask_say(alloc: Global, run: &mut Run, text: &[u8]) -> u8
     }
 }
 
-/// Discards the asks gathered since the last post or answer. Returns 0, or 9 if there is no run.
+/// Discards the asks gathered since the last post or answer. Returns 0, or 9 if the run does not exist.
 #[unsafe(no_mangle)]
 pub extern "C" fn bb_discard(alloc: Global, run: &mut Run) -> u8
     ensures { Discards run.old.sitting run.new.sitting result }

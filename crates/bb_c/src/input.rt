@@ -2,7 +2,7 @@
 
 use bb_main::In;
 
-/// Bytes that are read from the front, in pieces of any length.
+/// Bytes that are read from the start, in pieces of any length.
 #[derive(Drop)]
 pub(crate) struct Input<'a> {
     left: &'a [u8],

@@ -1,7 +1,7 @@
 //! The shell as a static library for hosts in C, C++, Rust and Python; `include/bb.h` declares its calls.
 //!
 //! - In: bytes of an input and buffers of the caller, and `Run`, the handle of a held run.
-//! - Out: a status of every call; traces and what is looked up, copied into the buffers.
+//! - Out: a status of every call; traces and the results of look-ups, copied into the buffers.
 //! - Callers rely on: the contracts hold if the caller keeps what `include/bb.h` lists, which no check sees.
 //! - Family: bb_main serves whole inputs, bb_c_run holds runs; `bindings/python` calls this library.
 #![tactic(auto)]

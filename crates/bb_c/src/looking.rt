@@ -1,4 +1,4 @@
-//! The calls that look up what is on the blackboard of a run.
+//! The calls that look up units, their slots and their classes on the blackboard of a run.
 
 ghost use Rattle.std.specs.Prelude.{◌≡◌, ◌⊎◌, if◌then◌else◌};
 ghost use Rattle.bb_c_run.specs.Looking.{interval_of, number_of, text_of, truth_of};
@@ -12,8 +12,8 @@ use std::alloc::Global;
 use std::str;
 
 /// Writes the number in an ordinary slot of a unit to `value`. Like all calls that look something up, it returns 0; 1
-/// if there is no such unit or slot, or the slot holds something else; 2 if the name is not UTF-8; 9 if there is no
-/// run. It writes only if it returns 0. A finished run has no units.
+/// if the unit or slot does not exist, or the slot holds something else; 2 if the name is not UTF-8; 9 if the run does
+/// not exist. It writes only if it returns 0. A finished run has no units.
 #[unsafe(no_mangle)]
 pub extern "C" fn bb_int(
     alloc: Global,
@@ -99,7 +99,7 @@ pub extern "C" fn bb_interval(
     }
 }
 
-/// Writes as much of the text in an ordinary slot of a unit as `to` has room for, and the number of bytes of the text.
+/// Writes as much of the text in an ordinary slot of a unit as `to` can hold, and the number of bytes of the text.
 #[unsafe(no_mangle)]
 pub extern "C" fn bb_text(
     alloc: Global,
@@ -126,8 +126,8 @@ pub extern "C" fn bb_text(
     given(found, len)
 }
 
-/// Writes as much of the name of the label in an ordinary slot of a unit as `to` has room for, and the number of bytes
-/// of the name.
+/// Writes as much of the name of the label in an ordinary slot of a unit as `to` can hold, and the number of bytes of
+/// the name.
 #[unsafe(no_mangle)]
 pub extern "C" fn bb_label(
     alloc: Global,
@@ -154,7 +154,7 @@ pub extern "C" fn bb_label(
     given(found, len)
 }
 
-/// Writes as much of the name of a unit's class as `to` has room for, and the number of bytes of the name.
+/// Writes as much of the name of a unit's class as `to` can hold, and the number of bytes of the name.
 #[unsafe(no_mangle)]
 pub extern "C" fn bb_class(
     alloc: Global,
@@ -177,7 +177,7 @@ pub extern "C" fn bb_class(
 }
 
 /// Writes the number of the kind of a slot of a unit: 0 number, 1 text, 2 truth value, 3 label, 4 interval, 5 links.
-/// Returns 1 if there is no such unit or slot.
+/// Returns 1 if the unit or slot does not exist.
 #[unsafe(no_mangle)]
 pub extern "C" fn bb_kind(alloc: Global, run: &mut Run, unit: u64, slot: &[u8], kind: &mut u8) -> u8
     ensures told { IfText slot.now (Looks run.old.sitting (kind_of unit slot.now)
@@ -197,8 +197,8 @@ pub extern "C" fn bb_kind(alloc: Global, run: &mut Run, unit: u64, slot: &[u8], 
     given(found.map(kind_number), kind)
 }
 
-/// Writes as many partners of a unit by a link slot as `to` has room for, in order of addition, and their number. An
-/// ordinary slot has no partners. Returns 5 if memory ran out.
+/// Writes the partners of a unit by a link slot, in order of addition, as far as `to` can hold them, and their number.
+/// An ordinary slot has no partners. Returns 5 if memory ran out.
 #[unsafe(no_mangle)]
 pub extern "C" fn bb_links(
     alloc: Global,

@@ -13,9 +13,9 @@ use std::alloc::Global;
 use std::str;
 
 /// Begins the run of an input, with no activation rated below `floor`. Its sources may act by natives with the names in
-/// `natives`, one on each line, for which the host answers. The handle has to be none. Returns the state of the run: 0
-/// at rest, 3 going, 4 full; or 2 if the input is refused or the names are not UTF-8, 5 if memory ran out, 9 if the
-/// handle has a run already.
+/// `natives`, one on each line; the host answers for them. The handle must be none. Returns the state of the run: 0 at
+/// rest, 3 going, 4 full; or 2 if the input is refused or the names are not UTF-8, 5 if memory ran out, 9 if the handle
+/// already has a run.
 #[unsafe(no_mangle)]
 pub extern "C" fn bb_open(
     alloc: Global,
@@ -55,7 +55,7 @@ fn open(alloc: Global, run: &mut Run, input: &[u8], natives: &str, floor: i64) -
 }
 
 /// Makes a cycle, or emits quiescence if nothing can be chosen. Returns the state of the run: 0 at rest, 3 going, 4
-/// full, 8 a native is due, 5 memory ran out, 9 there is no run or it is finished.
+/// full, 8 a native is due, 5 memory ran out, 9 the run does not exist or is finished.
 #[unsafe(no_mangle)]
 pub extern "C" fn bb_turn(alloc: Global, run: &mut Run) -> u8
     ensures { Calls one_turn run.old.sitting run.new.sitting result }
@@ -82,8 +82,8 @@ pub extern "C" fn bb_advance(alloc: Global, run: &mut Run, cycles: u32) -> u8
     status
 }
 
-/// Posts the gathered asks. Returns the state of the run, as `bb_turn` does; or 9, and the run and the asks are as they
-/// were, if a native is due.
+/// Posts the gathered asks. Returns the state of the run, as `bb_turn` does; or 9, with the run and the asks unchanged,
+/// if a native is due.
 #[tactic(auto, using(crate::proofs::MisuseLemmas::misuse_keeps))]
 #[unsafe(no_mangle)]
 pub extern "C" fn bb_post(alloc: Global, run: &mut Run) -> u8
@@ -98,8 +98,8 @@ pub extern "C" fn bb_post(alloc: Global, run: &mut Run) -> u8
     status
 }
 
-/// Answers for the native that is due with the gathered asks. Returns the state of the run, as `bb_turn` does; or 9, and
-/// the run and the asks are as they were, if no native is due.
+/// Answers for the native that is due with the gathered asks. Returns the state of the run, as `bb_turn` does; or 9,
+/// with the run and the asks unchanged, if no native is due.
 #[tactic(auto, using(crate::proofs::MisuseLemmas::misuse_keeps))]
 #[unsafe(no_mangle)]
 pub extern "C" fn bb_answer(alloc: Global, run: &mut Run) -> u8
@@ -114,9 +114,9 @@ pub extern "C" fn bb_answer(alloc: Global, run: &mut Run) -> u8
     status
 }
 
-/// Ends a run: it comes to rest or to its limit, and afterwards only its trace can be read. Returns how it ended: 0 by
-/// quiescence, 3 by its limit, 4 full, 5 memory ran out, 9 there is no run or it is finished; or 8 if a native is due,
-/// and then the run is unchanged.
+/// Ends a run, at rest or at its limit. Afterwards only its trace can be read. Returns how it ended: 0 by quiescence, 3
+/// by its limit, 4 full, 5 memory ran out, 9 the run does not exist or is finished; or 8 if a native is due, and then
+/// the run is unchanged.
 #[unsafe(no_mangle)]
 pub extern "C" fn bb_finish(alloc: Global, run: &mut Run) -> u8
     ensures { Finishes run.old.sitting run.new.sitting result }
@@ -129,7 +129,7 @@ pub extern "C" fn bb_finish(alloc: Global, run: &mut Run) -> u8
     status
 }
 
-/// Closes a run and frees its memory. The handle is none afterwards. Does nothing if the handle is none.
+/// Closes a run, frees its memory and sets the handle to none. Does nothing if the handle is already none.
 #[unsafe(no_mangle)]
 pub extern "C" fn bb_close(alloc: Global, run: &mut Run)
     ensures { run.new.sitting ≡ None }

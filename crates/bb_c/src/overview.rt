@@ -1,5 +1,5 @@
-//! The calls that look up something of a run as a whole: what is due, the units of a class and of a space, the whole
-//! blackboard, and what its sources can cost.
+//! The calls that look up something of a run as a whole: the native that is due, the units of a class and of a space,
+//! the whole blackboard, and the possible costs of its sources.
 
 ghost use Rattle.std.specs.Prelude.{◌≡◌, ◌⊎◌, if◌then◌else◌};
 ghost use Rattle.bb_c.specs.Looked.{Fills, IfText, Looks, creates_of, document_of, due_of, members_of, most_steps_of};
@@ -11,9 +11,9 @@ use crate::status::{MEMORY, MISUSE, NONE, OK, REFUSED, given};
 use std::alloc::Global;
 use std::str;
 
-/// Writes the unit for which a native is due, as much of the native's name as `to` has room for, and the number of
-/// bytes of the name. Like all calls that look something up, it returns 0; 1 if it does not exist, here if no native is
-/// due; or 9 if there is no run. It writes only if it returns 0.
+/// Writes the unit of the native that is due, as much of the native's name as `to` can hold, and the number of bytes of
+/// the name. Like all calls that look something up, it returns 0; 1 if it does not exist, here if no native is due; or
+/// 9 if the run does not exist. It writes only if it returns 0.
 #[unsafe(no_mangle)]
 pub extern "C" fn bb_due(
     alloc: Global,
@@ -42,8 +42,8 @@ pub extern "C" fn bb_due(
     }
 }
 
-/// Writes as many units of a class and of the classes below it as `to` has room for, ascending, and their number.
-/// Returns 1 if there is no such class, 2 if the name is not UTF-8, 5 if memory ran out.
+/// Writes the units of a class and of the classes below it, ascending, as far as `to` can hold them, and their number.
+/// Returns 1 if the class does not exist, 2 if the name is not UTF-8, 5 if memory ran out.
 #[unsafe(no_mangle)]
 pub extern "C" fn bb_units(
     alloc: Global,
@@ -73,8 +73,8 @@ pub extern "C" fn bb_units(
     }
 }
 
-/// Writes as many units in a space as `to` has room for, ascending, and their number. Returns 1 if there is no such
-/// space, 2 if the name is not UTF-8, 5 if memory ran out.
+/// Writes the units in a space, ascending, as far as `to` can hold them, and their number. Returns 1 if the space does
+/// not exist, 2 if the name is not UTF-8, 5 if memory ran out.
 #[unsafe(no_mangle)]
 pub extern "C" fn bb_members(
     alloc: Global,
@@ -104,7 +104,7 @@ pub extern "C" fn bb_members(
     }
 }
 
-/// Writes as much of the blackboard's document of initial units as `to` has room for, and the number of bytes of the
+/// Writes as much of the blackboard's document of initial units as `to` can hold, and the number of bytes of the
 /// document. Returns 5 if memory ran out.
 #[unsafe(no_mangle)]
 pub extern "C" fn bb_document(alloc: Global, run: &mut Run, to: &mut [u8], len: &mut usize) -> u8

@@ -7,8 +7,8 @@ use crate::run::Run;
 use crate::status::{MISUSE, OK};
 use std::alloc::Global;
 
-/// Reads as much of the unread trace as `to` has room for, and writes the number of bytes read to `len`. Returns 0, or
-/// 9 if there is no run.
+/// Reads as much of the unread trace as `to` can hold, and writes the number of bytes read to `len`. Returns 0, or 9 if
+/// the run does not exist.
 #[unsafe(no_mangle)]
 pub extern "C" fn bb_read(alloc: Global, run: &mut Run, to: &mut [u8], len: &mut usize) -> u8
     ensures { Reads run.old.sitting run.new.sitting to.old to.new len.new result }
@@ -22,7 +22,7 @@ pub extern "C" fn bb_read(alloc: Global, run: &mut Run, to: &mut [u8], len: &mut
     OK
 }
 
-/// Returns the number of the next new unit, or 0 if there is no run or it is finished.
+/// Returns the number of the next new unit, or 0 if the run does not exist or is finished.
 #[unsafe(no_mangle)]
 pub extern "C" fn bb_next(alloc: Global, run: &mut Run) -> u64
     ensures next { result ≡ next_of run.old.sitting }
@@ -36,7 +36,7 @@ pub extern "C" fn bb_next(alloc: Global, run: &mut Run) -> u64
     next
 }
 
-/// Returns the number of cycles that were made, or 0 if there is no run or it is finished.
+/// Returns the number of cycles that were made, or 0 if the run does not exist or is finished.
 #[unsafe(no_mangle)]
 pub extern "C" fn bb_made(alloc: Global, run: &mut Run) -> u64
     ensures made { result ≡ made_of run.old.sitting }

@@ -11,9 +11,9 @@ use bb_c_run::{fill, why_refused};
 use std::alloc::Global;
 use std::str;
 
-/// Writes the line by which an input is refused, without a line feed, as much of it as `to` has room for, and its number
-/// of bytes. The arguments are those of `bb_open`. Returns 0; 1 if the input is not refused; 2 if the names are not
-/// UTF-8; 5 if memory ran out. It writes only if it returns 0.
+/// Writes the line that refuses an input, without a line feed, as much of it as `to` can hold, and its number of bytes.
+/// The arguments are the same as for `bb_open`. Returns 0; 1 if the input is not refused; 2 if the names are not UTF-8;
+/// 5 if memory ran out. It writes only if it returns 0.
 #[unsafe(no_mangle)]
 pub extern "C" fn bb_refusal(
     alloc: Global,
@@ -42,8 +42,8 @@ pub extern "C" fn bb_refusal(
     }
 }
 
-/// Writes the message on a refused input, as `bb_refusal` writes its line: what is wrong, and on lines below it what the
-/// input has at that place.
+/// Writes the message on a refused input, as `bb_refusal` writes its line: the fault, and on lines below it the part of
+/// the input at that location.
 #[unsafe(no_mangle)]
 pub extern "C" fn bb_explain(
     alloc: Global,

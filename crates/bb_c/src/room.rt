@@ -5,7 +5,7 @@ ghost use Rattle.std.specs.Prelude.{◌≡◌, ◌≤◌, ◌-◌, [], false, le
 use bb_main::{Memory, Out};
 use std::alloc::Global;
 
-/// An output that takes `limit` bytes, and then fails.
+/// An output that accepts `limit` bytes, and then fails.
 #[derive(Drop)]
 pub(crate) struct Room {
     bytes: Vec<u8>,

@@ -1,4 +1,4 @@
-//! The handle of a run held by a host in C. The calls take the run out of it and put it back.
+//! The handle of a run held by a host in C. The calls remove the run from it and put it back.
 
 ghost use Rattle.std.specs.Prelude.{◌≡◌, Option, Some, None};
 ghost use Rattle.bb_c_run.specs.declared.held.Held.{Held as Sits};

@@ -30,9 +30,9 @@ pub extern "C" fn bb_version() -> u32
 }
 
 /// Serves an input as the program does, without natives. Modes: 0 run, 1 check, 2 compile, 3 run and write the units
-/// that are left. Writes what the program would write to `output`, as far as there is room, and its number of bytes to
-/// `written`. Returns the status: 0 quiescence, or a check or bundle written; 2 the input is refused, or there is no
-/// such mode; 3 the limit; 4 full; 5 memory ran out; 6 the answer is longer than the output, which holds a prefix of
+/// that are left. Writes what the program would write to `output`, as far as it fits, and its number of bytes to
+/// `written`. Returns the status: 0 quiescence, or a check or bundle written; 2 the input is refused, or the mode does
+/// not exist; 3 the limit; 4 full; 5 memory ran out; 6 the answer is longer than the output, which holds a prefix of
 /// it.
 #[unsafe(no_mangle)]
 pub extern "C" fn bb_serve(

@@ -27,7 +27,7 @@ pub(crate) const MEMORY: u8 = 5;
 /// A native is due.
 pub(crate) const DUE: u8 = 8;
 
-/// There is no such run, because none was begun or it was finished; or the call can't be made now.
+/// The run does not exist, because none was begun or it was finished; or the call can't be made now.
 pub(crate) const MISUSE: u8 = 9;
 
 /// Returns the status that reports the state of a run.

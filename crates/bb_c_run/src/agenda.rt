@@ -20,7 +20,7 @@ pub struct Waits {
     /// The rating before foci count.
     pub base: i64,
     /// The rating: the base plus the weights of the foci that match. One that is too large or too small for 64 bits is
-    /// the greatest or the least number of 64 bits.
+    /// the largest or the smallest number of 64 bits.
     pub rating: i64,
 }
 
@@ -35,8 +35,8 @@ fn numbers(alloc: Global, agenda: &Agenda) -> Result<Vec<u64>, Memory>
     Ok(list)
 }
 
-/// Copies as many numbers of the pending activations as `room` has places for, ascending, and returns how many there
-/// are. `Memory`: memory ran out.
+/// Copies the numbers of the pending activations into `room`, ascending, up to its capacity, and returns how many
+/// activations are pending. `Memory`: memory ran out.
 pub(crate) fn pending(alloc: Global, agenda: &Agenda, room: &mut [u64]) -> Result<usize, Memory>
     ensures count { IfOk result (λ n. n ≡ length (numbers_pending agenda.now)) }
     ensures filled { IfOk result (λ _. room.new ≡ filled (numbers_pending agenda.now) room.old) }

@@ -193,8 +193,8 @@ impl Held {
         self.asks.clear();
     }
 
-    /// Posts the gathered asks, which tell the run what happened. No asks are gathered afterwards. If a native is due, or
-    /// the run is finished, nothing happens, and the asks stay gathered. Returns the state of the run.
+    /// Posts the gathered asks, which report to the run what happened. No asks are gathered afterwards. If a native is
+    /// due, or the run is finished, nothing happens, and the asks stay gathered. Returns the state of the run.
     #[tactic(auto, using(crate::proofs::AskLemmas::left_none, crate::proofs::AskLemmas::moved_keeps))]
     pub fn post(&mut self) -> Stands
         ensures posts { Posts self.old.asks.items self.old.running self.new.running
@@ -247,8 +247,9 @@ impl Held {
         }
     }
 
-    /// Ends the run: if it is still going, it first comes to rest or to its limit. Afterwards only the trace can be
-    /// read. If a native is due, the run can't be ended, and nothing happens. Returns the state of the run.
+    /// Ends the run: if it is still going, it first continues until it rests or reaches its limit. Afterwards only the
+    /// trace can be read. If a native is due, the run can't be ended, and nothing happens. Returns the state of the
+    /// run.
     #[tactic(auto, using(crate::proofs::EndLemmas::memory_concludes, crate::proofs::EndLemmas::write_concludes))]
     pub fn finish(&mut self) -> Stands
         ensures ends { Ends self.old.running self.new.running (unread self.old.trace) (unread self.new.trace) result }
@@ -279,7 +280,7 @@ impl Held {
         }
     }
 
-    /// Reads as much of the unread trace as `to` has room for, and returns the number of bytes read.
+    /// Reads the unread trace into `to`, up to its capacity, and returns the number of bytes read.
     pub fn read(&mut self, to: &mut [u8]) -> usize
         ensures count { result ≡ min (length (unread self.old.trace)) (length to.old) }
         ensures given { to.new ≡ take result (unread self.old.trace) ++ drop result to.old }

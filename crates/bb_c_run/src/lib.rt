@@ -2,9 +2,10 @@
 //! until they are posted.
 //!
 //! - In: the bytes of an input, moves, asks, and buffers to read into.
-//! - Out: the state of the run after each move; its trace; and what is looked up: the blackboard, the agenda, the native
-//!   that is due, and what its sources can cost. `why_refused`: why an input is refused.
-//! - Callers rely on: what is read is what the moves emit (`bb_run_held/specs/Moves`), in order, every byte once.
+//! - Out: the state of the run after each move; its trace; and on request the blackboard, the agenda, the native that
+//!   is due, and the possible costs of its sources. `why_refused`: why an input is refused.
+//! - Callers rely on: reads return the bytes that the moves emit (`bb_run_held/specs/Moves`), in order, every byte
+//!   once.
 //! - Family: bb_run_held is the run, bb_c has the calls for C.
 //! - Tests: bb_main_tests.
 #![tactic(auto)]

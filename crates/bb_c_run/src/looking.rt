@@ -14,7 +14,7 @@ use bb_schema::{ClassId, SlotId, SpaceId, UnitId};
 use bb_shell::{Plan, Value, View};
 use std::alloc::Global;
 
-/// Copies as many of some items as `room` has places for, and returns the number of items.
+/// Copies items into `room`, in order, up to its capacity, and returns the number of all items.
 pub fn fill<T: Copy>(found: &[T], room: &mut [T]) -> usize
     ensures count { result ≡ length found.now }
     ensures filled { room.new ≡ filled found.now room.old }
@@ -130,8 +130,8 @@ pub(crate) fn kind(view: &View<'_>, unit: UnitId, slot: &str) -> Option<SlotKind
     Some(kind_of(view.get(unit, slot)))
 }
 
-/// Copies as many partners of a unit by a slot as `room` has places for, in order of addition, and returns their
-/// number; `None` if there is no such unit or slot. `Memory`: memory ran out.
+/// Copies the partners of a unit by a slot into `room`, in order of addition, up to its capacity, and returns the
+/// number of partners; `None` if the unit or the slot does not exist. `Memory`: memory ran out.
 pub(crate) fn partners(
     view: &View<'_>,
     unit: UnitId,
@@ -163,8 +163,8 @@ fn keep_those_of(view: &View<'_>, class: ClassId, units: &mut Vec<UnitId>)
     units.retain(|unit| is_of(view, class, *unit));
 }
 
-/// Copies as many units of a class and of the classes below it as `room` has places for, ascending, and returns their
-/// number; `None` if there is no such class. `Memory`: memory ran out.
+/// Copies the units of a class and of the classes below it into `room`, ascending, up to its capacity, and returns the
+/// number of these units; `None` if the class does not exist. `Memory`: memory ran out.
 pub(crate) fn units(
     view: &View<'_>,
     class: &str,
@@ -196,8 +196,8 @@ fn keep_those_in(view: &View<'_>, space: SpaceId, units: &mut Vec<UnitId>)
     units.retain(|unit| is_in(view, space, *unit));
 }
 
-/// Copies as many units of a space as `room` has places for, ascending, and returns their number; `None` if there is no
-/// such space. `Memory`: memory ran out.
+/// Copies the units of a space into `room`, ascending, up to its capacity, and returns the number of these units;
+/// `None` if the space does not exist. `Memory`: memory ran out.
 pub(crate) fn members(
     view: &View<'_>,
     space: &str,
@@ -215,8 +215,8 @@ pub(crate) fn members(
     Ok(Some(fill(found.as_slice(), room)))
 }
 
-/// Copies as much of a blackboard's document of initial units as `room` has places for, and returns the number of bytes
-/// of the document. `Memory`: memory ran out.
+/// Copies a blackboard's document of initial units into `room`, up to its capacity, and returns the number of bytes of
+/// the document. `Memory`: memory ran out.
 pub(crate) fn document(alloc: Global, view: &View<'_>, room: &mut [u8]) -> Result<usize, Memory>
     ensures count { IfOk result (λ n. n ≡ length (units_text view.now)) }
     ensures filled { IfOk result (λ _. room.new ≡ filled (units_text view.now) room.old) }
@@ -226,7 +226,7 @@ pub(crate) fn document(alloc: Global, view: &View<'_>, room: &mut [u8]) -> Resul
     Ok(fill(text.as_bytes(), room))
 }
 
-/// Returns the unit for which a native is due and the native's name, if one is due.
+/// Returns the unit that a native is due for and the native's name, if one is due.
 pub(crate) fn due(plan: &Plan, pause: Pause) -> Option<(UnitId, &str)>
     ensures { option_map (λ d. (d.0, d.1.now)) result ≡ due_by plan.now pause }
 {

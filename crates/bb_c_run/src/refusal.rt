@@ -17,10 +17,10 @@ use std::alloc::{AllocError, Global};
 /// Why an input is refused.
 #[derive(Drop)]
 pub struct Refusal {
-    /// The line by which a program refuses the input, without its line feed.
+    /// The line that a program writes to refuse the input, without its line feed.
     pub line: String,
-    /// For people: the sentence of the fault and, on lines below it, what the input has at its place. The last line has
-    /// no line feed.
+    /// For people: the sentence of the fault and, on lines below it, what the input has at its location. The last line
+    /// has no line feed.
     pub message: String,
 }
 

@@ -1,4 +1,4 @@
-//! The kinds of slots, as a host is told them.
+//! The kinds of slots, as reported to a host.
 
 /// What a slot can hold.
 #[derive(Clone, Copy, Debug, PartialEq, Eq)]

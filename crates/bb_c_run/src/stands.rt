@@ -18,9 +18,9 @@ pub enum Stands {
     Full,
     /// Memory ran out, now or before: the run can be read and closed, nothing else.
     Memory,
-    /// The run is finished, so the call did nothing.
+    /// The run is finished, and the call did nothing.
     Finished,
-    /// The call can't be made now, so it did nothing: a native is due at a post, or none is at an answer.
+    /// The call can't be made now and did nothing: a native is due at a post, or none is due at an answer.
     Misused,
 }
 

@@ -15,7 +15,7 @@ pub(crate) struct Trace {
 }
 
 impl Trace {
-    /// Makes an output to which nothing is written.
+    /// Makes an empty output.
     pub(crate) fn new(alloc: Global) -> Trace
         ensures none { drop result.read result.bytes.items ≡ [] }
         ensures open { result.failed ≡ false }
@@ -27,7 +27,7 @@ impl Trace {
         }
     }
 
-    /// Reads as many unread bytes as `to` has room for, and returns their number.
+    /// Reads the unread bytes into `to`, up to its capacity, and returns the number of bytes read.
     pub(crate) fn read(&mut self, to: &mut [u8]) -> usize
         ensures count { result ≡ min (length (drop self.old.read self.old.bytes.items)) (length to.old) }
         ensures given { to.new ≡ take result (drop self.old.read self.old.bytes.items) ++ drop result to.old }

@@ -1,9 +1,9 @@
-//! The program that runs cases: reads files of cases, makes their calls, and compares the results with the wanted ones.
-//! It skips the cases that built programs can run; tools/cases runs those.
+//! The program that runs cases: reads files of cases, makes their calls, and compares the results with the expected
+//! ones. It skips the cases that built programs can run; tools/cases runs those.
 //!
 //! - In: the `.case` files of `data/`, as docs/contributors/CASES.md describes them.
 //! - Out: a line for every case that does not hold, and the numbers of cases that hold and do not.
-//! - Family: bb_cases_format reads the files, bb_cases_parts has the cases of schemas and codes, history those of
+//! - Family: bb_cases_format reads the files, bb_cases_parts has the cases of schemas and codes, history the cases of
 //!   moves.
 #![tactic(auto)]
 

@@ -6,7 +6,7 @@ use std::fmt::Write;
 // The maximum number of bytes of a line that are shown.
 const SHOWN_LIMIT: usize = 300;
 
-/// The place where the given text begins to differ from the wanted one.
+/// The first difference of the given text from the wanted one.
 #[derive(Drop)]
 pub struct Difference {
     /// The number of the line, from 1, or 0 if the status differs.

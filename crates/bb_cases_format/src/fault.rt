@@ -19,7 +19,7 @@ pub enum Fault {
     /// A header begins with no kind of entry.
     #[error("no kind of entries has this name")]
     Kind,
-    /// A second header is where none or another belongs.
+    /// A second header is present although none or another one is expected.
     #[error("`gives` or `rows` stands behind no case that has it")]
     Second,
     /// A second header is missing.
@@ -49,7 +49,7 @@ pub enum Fault {
     /// A line continues after `$(join)`.
     #[error("`$(join)` stands at the end of a line")]
     Join,
-    /// An insert has no meaning where it is.
+    /// An insert has no meaning at its location.
     #[error("no such insert")]
     Insert,
     /// Inserts are nested deeper than the limit.

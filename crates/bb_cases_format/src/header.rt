@@ -9,7 +9,7 @@ use std::str::FromStr;
 pub struct Header<'a> {
     /// The kind of the entry, or the first word of a second text.
     pub kind: &'a str,
-    /// The word after the kind; empty if there is none.
+    /// The word after the kind; empty if it is missing.
     pub name: &'a str,
     // The words after the name: options and their values.
     options: Vec<&'a str>,
@@ -36,7 +36,7 @@ impl<'a> Header<'a> {
         })
     }
 
-    /// Checks that there is a name, and that all options are among the allowed ones. `Name`: there is no name.
+    /// Checks that there is a name, and that all options are among the allowed ones. `Name`: the name is missing.
     /// `Options`: an option is not allowed, or has no value.
     pub fn check(&self, allowed: &[&str]) -> Result<(), Fault> {
         if !is_name(self.name) {

@@ -13,7 +13,7 @@ const DEPTH_LIMIT: u8 = 8;
 // What ends the first word of an insert.
 const BETWEEN: [char; 2] = [' ', '\n'];
 
-/// What inserts can mean at a place.
+/// The possible meanings of inserts at a location.
 #[derive(Clone, Copy)]
 pub struct Scope<'a> {
     alloc: Global,

@@ -107,7 +107,8 @@ impl Names {
         }
     }
 
-    /// Copies the text with the name that an option has. `Options`: there is no option. `Utf8`: the text is not UTF-8.
+    /// Copies the text with the name that an option has. `Options`: the option is missing. `Utf8`: the text is not
+    /// UTF-8.
     pub fn copied(&self, name: Option<&str>) -> Result<String, Fault> {
         let text = text_of(self.text(name.ok_or(Fault::Options)?)?)?;
         Ok(String::from_str(self.alloc, text)?)

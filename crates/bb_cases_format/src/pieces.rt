@@ -12,7 +12,7 @@ pub(crate) enum Piece<'a> {
     Insert(&'a str),
 }
 
-/// The number of open parentheses, the first of which belongs to an insert.
+/// The number of open parentheses, including the first, which belongs to an insert.
 #[derive(Clone, Copy)]
 pub(crate) struct Nesting {
     pub depth: usize,

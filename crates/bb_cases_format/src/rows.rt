@@ -17,7 +17,8 @@ pub struct Row {
 }
 
 impl Row {
-    /// Returns what is before the first `|` and what is after it, without the space around it. `Row`: there is no `|`.
+    /// Returns the texts before and after the first `|`, without the space on either side of it. `Row`: `|` is
+    /// missing.
     pub fn sides(&self) -> Result<(&str, &str), Fault> {
         let (front, back) = self.text.split_once('|').ok_or(Fault::Row)?;
         Ok((

@@ -21,8 +21,8 @@ pub(crate) struct Bending<'a> {
 }
 
 impl Bending<'_> {
-    /// Appends a line for each prefix that is not too short and for each changed byte with a wrong outcome, and then
-    /// how many prefixes the code has, and how many variants with another byte.
+    /// Appends a line for every prefix that is not too short and for every changed byte with a wrong outcome, and then
+    /// the number of prefixes of the code and the number of variants with another byte.
     pub fn add(self, text: &mut String, code: &Code) -> Result<(), Fault> {
         let bytes = code.encode(self.alloc)?;
         let mut others = 0u64;

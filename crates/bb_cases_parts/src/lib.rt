@@ -2,8 +2,8 @@
 //! program of the cases (bb_cases) calls it.
 //!
 //! - In: an entry of a file of cases, or the contents of a table's row.
-//! - Out: `compare_schema` and `compare_code`, the first difference from the wanted lines; `add_on_scene`, the lines of
-//!   an execution.
+//! - Out: `compare_schema` and `compare_code`, the first difference from the expected lines; `add_on_scene`, the lines
+//!   of an execution.
 //! - Family: bb_cases_format reads the entries; machines executes codes by both machines and compares the outcomes.
 #![tactic(auto)]
 

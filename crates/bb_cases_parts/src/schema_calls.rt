@@ -20,7 +20,7 @@ pub(crate) enum Answer<'a> {
     Dims(&'a [Dim]),
 }
 
-/// Returns the result of a call, given the words after its name. `Call`: there is no such call. `Number`: a word is not
+/// Returns the result of a call, given the words after its name. `Call`: no call has this name. `Number`: a word is not
 /// a number.
 pub(crate) fn answer_of<'a>(
     schema: &'a Schema,

@@ -111,7 +111,7 @@ impl Code {
         self.parts.ops.as_slice()
     }
 
-    /// Returns the op at a place, or `None` if the place is outside the code.
+    /// Returns the op at an index, or `None` if the index is outside the code.
     pub fn op(&self, place: usize) -> Option<Op>
         ensures value { result ≡ slice_get self.now.ops place }
         ensures fits { IsCode self.now }

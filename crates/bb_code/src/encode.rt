@@ -23,7 +23,7 @@ trait Spelled: Sized {
     /// The bytes that spell the value.
     ghost bytes: { Self → List ℕ };
 
-    /// The condition for values to be spelled this way.
+    /// The condition that a value must meet to be spelled as `bytes`.
     ghost Fits: { Self → Type 0 };
 
     // Appends the bytes of the value.

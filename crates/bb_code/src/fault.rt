@@ -10,13 +10,13 @@ use thiserror::Error;
 /// The first fault of bytes that are not a code. Only `Memory` says nothing about them.
 #[derive(Clone, Copy, Debug, PartialEq, Eq, Error)]
 pub enum CodeFault {
-    /// One of the first three bytes is not the one with which every code begins.
+    /// One of the first three bytes differs from the bytes that begin every code.
     #[error("this is no code")]
     Magic,
     /// The version is neither 1 nor 2.
     #[error("the code has another version")]
     Version,
-    /// The bytes end where more are needed.
+    /// The bytes end, but more are needed.
     #[error("the code ends too early")]
     Short,
     /// No op has this number.

@@ -6,7 +6,7 @@ ghost use Rattle.bb_code.specs.declared.flaw.Flaw.TheVariants.{Memory};
 
 use std::alloc::{AllocError, AllocFailed};
 
-/// A flaw of a code at a place.
+/// A flaw of a code at an op.
 #[derive(Clone, Copy, Debug, PartialEq, Eq)]
 pub enum Flaw {
     /// A table is out of order or names something unknown, an operand names no entry of its table, there are too few
@@ -16,7 +16,7 @@ pub enum Flaw {
     Jump,
     /// A loop is out of order, or the ops at its ends or within it are not allowed there.
     Loop,
-    /// A place has no frame, or an edge goes to a place whose declared frame does not fit.
+    /// An op index has no frame, or an edge goes to an op index whose declared frame does not fit.
     Frame,
     /// Operands are missing, or more than 64 entries are on the stack after the op.
     Depth,
@@ -67,7 +67,7 @@ impl Flaw {
 /// Why a code is not accepted: its first flaw.
 #[derive(Clone, Copy, Debug, PartialEq, Eq)]
 pub struct VerifyFault {
-    /// The place of the op, from 0. For `Memory` it is 0.
+    /// The index of the op, from 0. For `Memory` it is 0.
     pub place: u16,
     pub flaw: Flaw,
 }

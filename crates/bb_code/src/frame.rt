@@ -1,4 +1,5 @@
-//! Frames and loops, which a code declares for its places. The verifier checks them; the machine does not read them.
+//! Frames and loops, which a code declares for its op indices. The verifier checks them; the machine does not read
+//! them.
 
 use crate::kinds::Kinds;
 use crate::op::Place;
@@ -18,13 +19,13 @@ pub enum Kind {
     Interval,
     /// A live unit of this class or one below it.
     Ref(ClassId),
-    /// No unit, or a unit that was created. If it is live, it is of this class or one below it.
+    /// No unit, or a unit that was created. If it is live, it has this class or one below it.
     Old(ClassId),
     /// A sequence of units of this class or one below it, which may be deleted.
     Seq(ClassId),
 }
 
-/// The kinds of all locals and of the stack at a place.
+/// The kinds of all locals and of the stack at an op index.
 pub struct Frame {
     pub locals: Kinds,
     /// The deepest entry first.
@@ -41,7 +42,7 @@ impl Drop for Frame {
     }
 }
 
-/// A place and the frame that a code declares for it.
+/// An op index and the frame that a code declares for it.
 pub struct FrameEntry {
     pub place: Place,
     pub frame: Frame,
@@ -54,7 +55,7 @@ impl Drop for FrameEntry {
     }
 }
 
-/// A loop: the places from its head up to its end, excluded.
+/// A loop: the op indices from its head up to its end, excluded.
 #[derive(Clone, Copy, Debug, PartialEq, Eq)]
 pub struct Loop {
     pub head: Place,

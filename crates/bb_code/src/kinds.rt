@@ -9,7 +9,7 @@ use std::marker::Model;
 
 /// A list of kinds. Contracts see it as a list.
 ///
-/// Up to four kinds are stored inline, so most frames allocate no memory for them.
+/// Up to four kinds are stored inline. Most frames therefore allocate no memory for them.
 pub struct Kinds {
     inner: SmallVec<Kind, 4>,
 }

@@ -54,8 +54,8 @@ pub enum LinkChange {
     Unlink,
 }
 
-/// One step of a code. It pops values from the stack and pushes values to it. After an op that goes to a place, the op
-/// there is next.
+/// One step of a code. It pops values from the stack and pushes values to it. After an op that jumps to an index, the
+/// op there is next.
 #[derive(Clone, Copy, Debug, PartialEq, Eq)]
 pub enum Op {
     /// Pushes a number.
@@ -94,7 +94,7 @@ pub enum Op {
     BoundOf(Bound),
     /// Pops a unit and pushes the value of an ordinary slot.
     Get(SlotId),
-    /// Pops a unit and pushes its partner by a singular link slot, or goes to the place if it has none.
+    /// Pops a unit and pushes its partner by a singular link slot, or jumps to the index if it has none.
     One(SlotId, Place),
     /// Pops a unit and pushes the sequence of its partners by a link slot.
     Links(SlotId),
@@ -102,9 +102,9 @@ pub enum Op {
     Find(u16),
     /// Pops a sequence and pushes the number of units that were found for it.
     Size,
-    /// Pops a unit and pushes it again if it is live, or else goes to the place.
+    /// Pops a unit and pushes it again if it is live, or else jumps to the index.
     Alive(Place),
-    /// Pops a unit and pushes it again if its class is this one or descends from it, or else goes to the place.
+    /// Pops a unit and pushes it again if its class is this one or descends from it, or else jumps to the index.
     As(ClassId, Place),
     /// Creates a unit of a class and pushes it.
     New(ClassId),
@@ -120,11 +120,11 @@ pub enum Op {
     Delete,
     /// Pops this many values, at most `SAID_LIMIT`, and says them, the deepest first.
     Say(u8),
-    /// Goes to the place.
+    /// Jumps to the index.
     Jump(Place),
-    /// Pops a truth value, and goes to the place if it is false.
+    /// Pops a truth value, and jumps to the index if it is false.
     Unless(Place),
-    /// Pushes the next live unit of the sequence in a local, or goes to the place if there is none.
+    /// Pushes the next live unit of the sequence in a local, or jumps to the index if no live unit is left.
     Next(LocalId, Place),
     /// Goes back to the head of a loop.
     Back(Place),

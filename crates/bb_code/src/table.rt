@@ -1,5 +1,5 @@
-//! The bytes of ops, kinds and nodes of patterns: the number of each, and what follows it. Decoding and encoding use
-//! these tables, and so do their definitions.
+//! The bytes of ops, kinds and nodes of patterns: the number of each, and what follows it. Decoding, encoding and the
+//! definitions of both use these tables.
 
 ghost use Rattle.std.specs.Prelude.{◌≡◌, slice_get};
 ghost use Rattle.std.specs.Option.{option_and_then};
@@ -35,7 +35,7 @@ pub(crate) enum OfLocal {
     Store,
 }
 
-/// The ops with a number of two bytes and a place.
+/// The ops with a number of two bytes and an op index.
 #[derive(Clone, Copy)]
 pub(crate) enum Branch {
     One,
@@ -51,7 +51,7 @@ pub(crate) enum OpForm {
     Number(Numbered),
     /// One local.
     Local(OfLocal),
-    /// A number of two bytes and a place.
+    /// A number of two bytes and an op index.
     Branch(Branch),
     /// A number of eight bytes that is pushed.
     Int,
@@ -63,7 +63,7 @@ pub(crate) enum OpForm {
     Divisor(Division),
     /// The number of values that are said.
     Count,
-    /// A local and a place.
+    /// A local and an op index.
     Next,
 }
 
@@ -246,7 +246,7 @@ impl OfLocal {
 }
 
 impl Branch {
-    /// Makes the op with this number and this place.
+    /// Makes the op with this number and this op index.
     pub(crate) fn op(self, number: u16, place: Place) -> Op
         ensures { result ≡ with_pair self number place }
     {

@@ -1,4 +1,4 @@
-//! A code's text with a comment after each op: its place, its byte, and the names of what its numbers refer to. bbasm
+//! A code's text with a comment after each op: its index, its byte, and the names of what its numbers refer to. bbasm
 //! prints it.
 
 use crate::text::{json_of, write_tables};
@@ -7,7 +7,7 @@ use bb_code::{Code, Op, Query, Schema};
 use std::alloc::{AllocError, Global};
 use std::fmt::Write;
 
-/// Returns the text of a code, which `assemble` reads like any other. A comment after each op has its place and the
+/// Returns the text of a code, which `assemble` reads like any other. A comment after each op has its index and the
 /// index of its first byte in the code, both from 0, and a text's characters; with a schema also the names of slots,
 /// classes, spaces and labels.
 pub fn listing(alloc: Global, code: &Code, schema: Option<&Schema>) -> Result<String, AllocError> {

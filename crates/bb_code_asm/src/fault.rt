@@ -15,13 +15,13 @@ pub enum Slip {
     /// There are more operands than the statement needs.
     #[error("there are too many operands")]
     TooMany,
-    /// An operand is not a number in its range, or not a truth value where one is expected.
+    /// An operand is not a number in its range, or not a truth value if one is expected.
     #[error("a number in its range is due")]
     Number,
-    /// A place is neither a number nor a label.
+    /// An op index is neither a number nor a label.
     #[error("no such place")]
     Place,
-    /// Two places have the same label, or a label is not a name.
+    /// Two op indexes have the same label, or a label is not a name.
     #[error("a label is due that no other place has")]
     Label,
     /// A text is not written as in JSON.
@@ -88,7 +88,7 @@ pub(crate) enum StatementFault {
 }
 
 impl StatementFault {
-    /// Makes the fault of a text from that of a statement in a line.
+    /// Makes the fault of a text from the fault of a statement in a line.
     pub(crate) fn at(self, line: u32) -> AsmFault {
         match self {
             StatementFault::Slip(slip) => AsmFault::At { line, slip },

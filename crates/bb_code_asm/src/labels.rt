@@ -1,4 +1,4 @@
-//! The labels of a text. Operands that are places can be labels.
+//! The labels of a text. Operands that are op indexes can be labels.
 
 use crate::fault::{AsmFault, Slip, StatementFault};
 use crate::statement::Statement;
@@ -6,7 +6,7 @@ use bb_code::Place;
 use std::alloc::{AllocError, Global};
 use std::collections::BTreeMap;
 
-/// The places that have labels.
+/// The op indexes that have labels.
 #[derive(Drop)]
 pub(crate) struct Labels {
     alloc: Global,
@@ -49,7 +49,7 @@ impl Labels {
         Ok(())
     }
 
-    /// Returns the place that a word names by its number or its label.
+    /// Returns the op index that a word names by its number or its label.
     pub fn place(&self, word: &str) -> Result<Place, Slip> {
         match word.parse::<Place>() {
             Ok(place) => Ok(place),

@@ -5,7 +5,7 @@ use crate::labels::Labels;
 use bb_code::{Place, Version};
 use std::str::FromStr;
 
-/// The operands of a statement, and the number of those that were read.
+/// The operands of a statement, and the number of operands already read.
 #[derive(Drop)]
 pub(crate) struct Operands<'a> {
     words: &'a [&'a str],
@@ -35,7 +35,7 @@ impl<'a> Operands<'a> {
         self.next_word().ok_or(Slip::Missing)
     }
 
-    /// Returns whether the next word is this one, and if so skips it.
+    /// Returns whether the next word is this one, and skips it if it is.
     pub fn takes(&mut self, word: &str) -> bool {
         let found = match self.words.get(self.taken) {
             Some(next) => *next == word,
@@ -78,13 +78,13 @@ impl<'a> Operands<'a> {
         self.word()?.parse::<bool>().ok().ok_or(Slip::Number)
     }
 
-    /// Reads a place, by its number or its label.
+    /// Reads an op index, by its number or its label.
     pub fn place(&mut self) -> Result<Place, Slip> {
         let word = self.word()?;
         self.labels.place(word)
     }
 
-    /// Returns the place that another word names.
+    /// Returns the op index that another word names.
     pub fn place_of(&self, word: &str) -> Result<Place, Slip> {
         self.labels.place(word)
     }

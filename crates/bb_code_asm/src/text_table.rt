@@ -1,5 +1,5 @@
-//! The names of the ops without operands and of the relations of patterns. op.rt and pattern.rt read them; writing.rt and
-//! text.rt write them.
+//! The names of the ops without operands and of the relations of patterns. op.rt and pattern.rt read them; writing.rt
+//! and text.rt write them.
 
 use bb_code::{Bound, Calculation, Comparison, Logic, Op, Relation};
 

@@ -1,5 +1,5 @@
-//! The text form of ops and kinds. `disassemble` and `listing` write them, and so do messages and warnings on codes
-//! (bb_diag, bb_lint_parts) and the cases.
+//! The text form of ops and kinds. `disassemble`, `listing`, messages and warnings on codes (bb_diag, bb_lint_parts)
+//! and the cases write them.
 
 use crate::text_table::plain_name;
 use bb_code::{Division, Kind, LinkChange, Op};

@@ -1,4 +1,4 @@
-//! Tests of what is known at a statement, with enough memory: the names of a part, and what a loop's body leaves.
+//! Tests of the facts known at a statement, with enough memory: the names of a part, and what a loop's body leaves.
 
 use bb_basis::Text;
 use bb_code::{Kind, LocalId};

@@ -1,5 +1,5 @@
-//! Tests of codes, of their verification, and of the crates that judge texts and emit their code: every public call that
-//! can need memory, with enough of it; limits; and loops compared with a plain program.
+//! Tests of codes, of their verification, and of the crates that judge texts and emit their code: every public call
+//! that can need memory, with enough of it; limits; and loops compared with a plain program.
 #![tactic(auto)]
 
 #[cfg(test)]

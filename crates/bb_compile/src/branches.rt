@@ -31,7 +31,7 @@ impl Branch {
         buffer.put(Op::Jump(0))
     }
 
-    /// Begins the block of `else`. Returns the place of the jump over it.
+    /// Begins the block of `else`. Returns the index of the jump over it.
     #[tactic(auto, unfolding(crate::specs::Statements::else_begun))]
     pub fn begin_else(&self, buffer: &mut Buffer) -> Result<u16, CompileFault>
         ensures { Gives OutOfMemory (λ jump. (jump, buffer.new)) result (else_begun self.now buffer.old) }
@@ -64,7 +64,7 @@ impl Branch {
         buffer.label()
     }
 
-    /// Ends the first block if there is no `else`.
+    /// Ends the first block if no `else` follows.
     #[tactic(auto, unfolding(crate::specs::Statements::if_ended))]
     pub fn end_if(&self, buffer: &mut Buffer) -> Result<(), AllocError>
         ensures { IfOk result (λ _. buffer.new ≡ if_ended self.now buffer.old) }

@@ -1,11 +1,11 @@
-//! The emitter: the code of a part as far as it is emitted, with its schema and part. Everything that walks the tree of
-//! a part gets it.
+//! The emitter: the code emitted so far for a part, with its schema and part. Everything that walks the tree of a part
+//! gets it.
 
 use bb_compile_buffer::Buffer;
 use bb_schema::Schema;
 use bb_verify_effect::Part;
 
-/// The buffer of a part, and what statements are checked against: schema and part, which stay unchanged while the
+/// The buffer of a part with the schema and part that statements are checked against; these stay unchanged while the
 /// buffer grows.
 #[derive(Drop)]
 pub struct Emitter<'a> {

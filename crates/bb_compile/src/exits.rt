@@ -6,7 +6,7 @@ ghost use Rattle.bb_compile.specs.Bindings.{one_exit, exits_aimed};
 
 use bb_compile_buffer::Buffer;
 
-/// The places of the one or two ops of a test that jump if it fails.
+/// The indices of the one or two ops of a test that jump if it fails.
 #[derive(Drop)]
 pub struct Exits {
     pub first: u16,
@@ -24,7 +24,7 @@ impl Exits {
         }
     }
 
-    /// Sets the target of the ops to the place of the next op.
+    /// Sets the target of the ops to the index of the next op.
     pub fn aim(&self, buffer: &mut Buffer)
         ensures { buffer.new ≡ exits_aimed self.now buffer.old }
     {

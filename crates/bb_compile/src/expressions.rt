@@ -51,7 +51,7 @@ fn emit_links(
     }
 }
 
-/// Looks up the class with a name. Notes `Unknown` if there is none.
+/// Looks up the class with a name. Notes `Unknown` if it is missing.
 pub(crate) fn class_named(schema: &Schema, buffer: &mut Buffer, name: &Text) -> Option<ClassId>
     ensures value { result ≡ class_by_name schema.now name.now }
     ensures flaw { buffer.new ≡ known (class_by_name schema.now name.now) buffer.old }
@@ -61,7 +61,7 @@ pub(crate) fn class_named(schema: &Schema, buffer: &mut Buffer, name: &Text) -> 
     class
 }
 
-/// Looks up the space with a name. Notes `Unknown` if there is none.
+/// Looks up the space with a name. Notes `Unknown` if it is missing.
 pub(crate) fn space_named(schema: &Schema, buffer: &mut Buffer, name: &Text) -> Option<SpaceId>
     ensures value { result ≡ space_by_name schema.now name.now }
     ensures flaw { buffer.new ≡ known (space_by_name schema.now name.now) buffer.old }
@@ -186,7 +186,7 @@ fn emit_pattern(
     }
 }
 
-/// Emits a sequence, with room for `room` values on the stack. Returns the class of its units, if it is known.
+/// Emits a sequence, with capacity for `room` values on the stack. Returns the class of its units, if it is known.
 #[cycle(emitting)]
 #[tactic(auto, unfolding(crate::specs::Expressions::sequence_code))]
 pub(crate) fn emit_sequence(
@@ -257,7 +257,7 @@ fn emit_steps(
     Ok(kind)
 }
 
-/// Emits an expression, with room for `room` values on the stack. Returns its kind, if it is known.
+/// Emits an expression, with capacity for `room` values on the stack. Returns its kind, if it is known.
 #[cycle(emitting)]
 #[tactic(auto, unfolding(crate::specs::Expressions::expr_code))]
 pub(crate) fn emit_expr(

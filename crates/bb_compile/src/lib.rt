@@ -1,5 +1,6 @@
-//! The compiler: turns the tree of a source into a source that a bundle can spell, with its codes. It walks the tree of
-//! each part once, in the order of the text; each statement is checked and emitted, and refused if it has a flaw.
+//! The compiler: translates the tree of a source into a source that a bundle can spell, with its codes. It walks the
+//! tree of each part once, in the order of the text; each statement is checked and emitted, and refused if it has a
+//! flaw.
 //!
 //! - In: a schema and a `SourceText`.
 //! - Out: `compile`, a `SourceCode`, or the first `CompileFault` with its line and column; `emit_part`, the code of one

@@ -17,7 +17,7 @@ use bb_schema::Schema;
 use bb_schema_classes::ClassId;
 use std::alloc::AllocError;
 
-/// A loop that has begun: its index, the place of its head, and the scope there.
+/// A loop that has begun: its index, the op index of its head, and the scope there.
 #[derive(Drop)]
 pub struct Begun {
     pub index: usize,

@@ -44,8 +44,8 @@ fn version_for(schema: &Schema) -> Version
     Version::One
 }
 
-/// Returns the code of a part that begins at a place, or its first flaw: at that place if a part other than `do` can
-/// run past its end or the code is too large, otherwise at a statement.
+/// Returns the code of a part that begins at a location, or its first flaw: at that location if a part other than `do`
+/// can run past its end or the code is too large, otherwise at a statement.
 #[tactic(auto, unfolding(crate::specs::Parts::part_code))]
 pub fn emit_part(
     alloc: Global,

@@ -17,7 +17,7 @@ use bb_schema_classes::ClassId;
 use bb_verify_effect::Part;
 use std::alloc::Global;
 
-/// Looks up the class named after an `on`, at a place. `Unknown`: there is none.
+/// Looks up the class named after an `on`, at a location. `Unknown`: the class is missing.
 pub(crate) fn class_on(schema: &Schema, name: &Text, place: Place) -> Result<ClassId, CompileFault>
     ensures { result ≡ class_on schema.now name.now place }
 {

@@ -63,7 +63,7 @@ fn draft_of(
     Ok(SourceDraft { header, parts, act })
 }
 
-/// Compiles a source: each part that is a block becomes a code. Fails with the first fault of the text.
+/// Compiles a source: every part that is a block becomes a code. Fails with the first fault of the text.
 #[tactic(auto, unfolding(crate::specs::Compiled::compiled))]
 pub fn compile(
     alloc: Global,

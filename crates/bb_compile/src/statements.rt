@@ -79,7 +79,7 @@ fn emit_placed(
     Ok(ended || now)
 }
 
-/// Emits a block, in which `loops` loops may be nested. Returns whether it always ends.
+/// Emits a block that may contain `loops` nested loops. Returns whether it always ends.
 #[cycle(statements)]
 pub(crate) fn emit_block(
     emitter: &mut Emitter,

@@ -138,7 +138,7 @@ fn emit_label(
     emit_pushed(buffer, Op::PushLabel(set, label), Kind::Label(set), room)
 }
 
-/// Emits an expression without parts, with room for `room` values on the stack. Returns its kind, if it is known.
+/// Emits an expression without parts, with space for `room` values on the stack. Returns its kind, if it is known.
 #[tactic(auto, unfolding(crate::specs::Atoms::atom_code))]
 pub fn emit_atom(
     schema: &Schema,

@@ -1,4 +1,4 @@
-//! The code of a part as far as it is emitted. Everything that emits code writes to a buffer.
+//! The code emitted so far for a part. Everything that emits code writes to a buffer.
 
 ghost use Rattle.std.specs.Prelude.{◌≡◌, IfOk, [], length, None};
 ghost use Rattle.bb_basis.specs.Results.{Gives};
@@ -19,16 +19,16 @@ use bb_verify_effect::{Part, is_same_plain};
 use std::alloc::{AllocError, Global};
 use std::mem;
 
-/// The code of a part as far as it is emitted, the names in scope here, and the lowest flaw of this statement.
+/// The code emitted so far for a part, the names in scope here, and the lowest flaw of this statement.
 #[derive(Drop)]
 pub struct Buffer {
-    /// The place of the part's first token.
+    /// The location of the part's first token.
     pub start: Place,
     pub ops: Ops,
     pub texts: Texts,
     pub queries: Items<Query>,
     pub loops: Loops,
-    /// The labels except the last one, which another at the same place may replace.
+    /// The labels except the last one, which another at the same index may replace.
     pub labels: Items<Label>,
     pub last: Option<Label>,
     pub scope: Scope,
@@ -37,7 +37,7 @@ pub struct Buffer {
     pub flaw: Option<TextFlaw>,
 }
 
-// Keeps the last label, unless another at the same place replaces it.
+// Keeps the last label, unless another at the same index replaces it.
 #[tactic(auto, unfolding(crate::specs::Buffers::kept))]
 fn keep(labels: &mut Items<Label>, last: Option<Label>, place: u16) -> Result<(), AllocError>
     ensures { IfOk result (λ _. labels.new ≡ kept labels.old last place) }
@@ -109,7 +109,7 @@ impl Buffer {
         self.note(TextFlaw::Unknown);
     }
 
-    /// Refuses the statement at a place if it has a flaw.
+    /// Refuses the statement at a location if it has a flaw.
     pub fn settle(&self, place: Place) -> Result<(), CompileFault>
         ensures { result ≡ settled place self.now }
     {
@@ -150,7 +150,7 @@ impl Buffer {
         self.put(op)
     }
 
-    /// Sets the target of the op at a place to the place of the next op.
+    /// Sets the target of the op at an index to the index of the next op.
     pub fn aim(&mut self, at: u16)
         ensures { self.new ≡ aim at self.old }
     {
@@ -217,7 +217,7 @@ impl Buffer {
 
     // ---- labels
 
-    /// Puts a label at the place of the next op. Of several labels at one place, the last one is kept.
+    /// Puts a label at the index of the next op. Of several labels at one index, the last one is kept.
     #[tactic(auto, unfolding(crate::specs::Buffers::labelled))]
     pub fn label(&mut self) -> Result<(), AllocError>
         ensures { IfOk result (λ _. self.new ≡ labelled self.old) }
@@ -248,8 +248,8 @@ impl Buffer {
         Ok(local)
     }
 
-    /// Declares a name for the value on the stack, which is of this kind, and stores the value in a free local.
-    /// `Limit`, at the part: no local is free, or as `put`.
+    /// Declares a name for the value on the stack, which has this kind, and stores the value in a free local. `Limit`,
+    /// at the part: no local is free, or as `put`.
     #[tactic(auto, unfolding(crate::specs::Buffers::declare))]
     pub fn declare(&mut self, name: &Text, kind: Kind) -> Result<(), CompileFault>
         ensures { Gives OutOfMemory (λ _. self.new) result (declare name.now kind self.old) }

@@ -47,7 +47,7 @@ impl Loops {
         Ok(())
     }
 
-    /// Ends the loop at an index before a place.
+    /// Ends the loop at an index before the op at `end`.
     pub fn end(&mut self, index: usize, end: u16)
         ensures { self.new ≡ ended_at index end self.old }
     {

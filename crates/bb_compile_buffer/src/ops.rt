@@ -50,7 +50,7 @@ impl Ops {
         }
     }
 
-    /// Returns the place of the next op.
+    /// Returns the index of the next op.
     pub fn here(&self) -> u16
         ensures { result ≡ length self.now }
     {
@@ -73,7 +73,7 @@ impl Ops {
         Ok(())
     }
 
-    /// Sets the target of the op at a place to the place of the next op.
+    /// Sets the target of the op at an index to the index of the next op.
     pub fn aim(&mut self, at: u16)
         ensures { self.new ≡ aimed_at at self.old }
     {

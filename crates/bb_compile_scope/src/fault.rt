@@ -17,7 +17,7 @@ pub enum TextFlaw {
     /// A value or a slot of a wrong kind.
     #[error("a value or a slot of a wrong kind")]
     Kind,
-    /// A unit that may have been deleted, where a live one is needed.
+    /// A unit that may have been deleted, although a live one is needed.
     #[error("a unit that may be deleted")]
     DeadName,
     /// The link slot cannot link units of the unit's class.
@@ -75,7 +75,7 @@ pub fn lowest(seen: Option<TextFlaw>, flaw: TextFlaw) -> TextFlaw
 /// What is wrong with a source: the flaw at the first location and, of several there, the one with the lowest number.
 #[derive(Clone, Copy, Debug, PartialEq, Eq, Error)]
 pub enum CompileFault {
-    /// A flaw of the statement, part or clause that begins at the place.
+    /// A flaw of the statement, part or clause that begins at the location.
     #[error("line {line}, column {column}: {flaw}", line = .place.line, column = .place.column)]
     At { flaw: TextFlaw, place: Place },
     /// Memory ran out.

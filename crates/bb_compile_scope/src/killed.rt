@@ -164,8 +164,7 @@ fn kill_otherwise(
     }
 }
 
-/// Walks a block in which a name is declared for a unit, and marks the names that are not live after some path through
-/// it.
+/// Walks a block with a name declared for a unit, and marks the names that are not live after some path through it.
 #[cycle(kill)]
 pub fn kill_under(
     alloc: Global,

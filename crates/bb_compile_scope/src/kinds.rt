@@ -61,8 +61,8 @@ pub fn equality(left: Kind, right: Kind) -> Option<Op>
     }
 }
 
-/// Returns what a name holds after a value is assigned to it. `None`: it may not be assigned. It may if both are of one
-/// kind, or are units and the value's class descends from the name's.
+/// Returns the kind of a name after a value is assigned to it. `None`: it may not be assigned. It may if both have the
+/// same kind, or are units and the value's class descends from the name's.
 #[tactic(auto, unfolding(crate::specs::Kinds::assigned, crate::specs::Kinds::assigned_unit))]
 pub fn assigned(schema: &Schema, held: Kind, value: Kind) -> Option<Kind>
     ensures { result ≡ assigned schema.now held value }

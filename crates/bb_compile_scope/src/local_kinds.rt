@@ -1,4 +1,4 @@
-//! What the locals of a code hold at a place. A scope contains it, and frames are built from it.
+//! The kinds of a code's locals at one point of the code. A scope contains them, and frames are built from them.
 
 ghost use Rattle.std.specs.Prelude.{◌≡◌, ◌<◌, length, map, set, position, IfSome};
 ghost use Rattle.bb_verify_effect.specs.Kinds.{struck};
@@ -147,7 +147,7 @@ impl LocalKinds {
         leave_each(&before.kinds, &mut self.kinds);
     }
 
-    /// Keeps only what is known after another branch too.
+    /// Keeps only the facts that are known after another branch too.
     pub fn meet(&mut self, other: &LocalKinds)
         ensures { self.new ≡ kinds_met other.now self.old }
     {

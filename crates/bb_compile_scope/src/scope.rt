@@ -26,7 +26,7 @@ pub struct Scope {
     pub kinds: LocalKinds,
 }
 
-/// A scope as it was at a place, to return to.
+/// The former state of a scope, to return to.
 #[derive(Drop)]
 pub struct Mark {
     pub names: usize,
@@ -114,7 +114,7 @@ impl Scope {
         Some(self.kinds.get(self.local_of(name)?))
     }
 
-    /// Marks the scope as it is now.
+    /// Marks the current state of the scope.
     pub fn mark(&self) -> Mark
         ensures { result ≡ mark_of self.now }
     {

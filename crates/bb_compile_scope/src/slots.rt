@@ -21,8 +21,8 @@ fn slot_of(schema: &Schema, class: ClassId, name: &str) -> Result<(SlotId, SlotK
     Ok((slot, schema.kind(slot)))
 }
 
-/// Looks up the ordinary slot with a name in a class, with the kind of its values. `Unknown`: there is no such slot.
-/// `Kind`: it is a link slot.
+/// Looks up the ordinary slot with a name in a class, with the kind of its values. `Unknown`: the class has no such
+/// slot. `Kind`: it is a link slot.
 #[tactic(auto, unfolding(crate::specs::Slots::value_slot))]
 pub fn value_slot(schema: &Schema, class: ClassId, name: &str) -> Result<(SlotId, Kind), TextFlaw>
     ensures { result ≡ value_slot schema.now class name.now }
@@ -38,8 +38,8 @@ pub fn value_slot(schema: &Schema, class: ClassId, name: &str) -> Result<(SlotId
     }
 }
 
-/// Looks up the link slot with a name in a class, with its link. `Unknown`: there is no such slot. `Kind`: it is an
-/// ordinary slot.
+/// Looks up the link slot with a name in a class, with its link. `Unknown`: the class has no such slot. `Kind`: it is
+/// an ordinary slot.
 #[tactic(auto, unfolding(crate::specs::Slots::link_slot))]
 pub fn link_slot(schema: &Schema, class: ClassId, name: &str) -> Result<(SlotId, Link), TextFlaw>
     ensures { result ≡ link_slot schema.now class name.now }
@@ -51,8 +51,8 @@ pub fn link_slot(schema: &Schema, class: ClassId, name: &str) -> Result<(SlotId,
     }
 }
 
-/// Looks up the singular link slot with a name in a class, with the partner's class. `Unknown`: there is no such slot.
-/// `Kind`: it is another sort of slot.
+/// Looks up the singular link slot with a name in a class, with the partner's class. `Unknown`: the class has no such
+/// slot. `Kind`: it is another sort of slot.
 #[tactic(auto, unfolding(crate::specs::Slots::partner_slot))]
 pub fn partner_slot(
     schema: &Schema,
@@ -87,8 +87,8 @@ fn operand_due(relation: Relation, set: Option<LabelSetId>) -> Option<Kind>
     }
 }
 
-/// Looks up the dimension with a name in a space, with the kind that its operand must have. `None`: there is no such
-/// dimension, or the relation does not apply to it.
+/// Looks up the dimension with a name in a space, with the kind that its operand must have. `None`: the space has no
+/// such dimension, or the relation does not apply to it.
 #[tactic(auto, unfolding(crate::specs::Slots::dimension))]
 pub fn dimension(
     schema: &Schema,

@@ -1,5 +1,5 @@
-//! The head of a message: where a fault is, as editors read it, and its number; and then the sentence of the fault
-//! without what the head says. Every report begins with one.
+//! The head of a message: the location of a fault, as editors read it, and its number; and then the sentence of the
+//! fault without what the head says. Every report begins with one.
 
 use crate::reporting::Input;
 use crate::rule_notes::rule_line;
@@ -101,7 +101,7 @@ fn located_line(input: Input<'_>, line: u64) -> Location {
     }
 }
 
-/// Returns where in the input a fault is, if that is known.
+/// Returns the location of a fault in the input, if it is known.
 pub(crate) fn location_of(
     alloc: Global,
     fault: &InputFault,
@@ -129,7 +129,7 @@ pub(crate) fn location_of(
     Ok(line.map(|line| located_line(input, line)))
 }
 
-/// Appends the head of a message: where it is, what it is, and the number of the fault.
+/// Appends the head of a message: its location, its severity, and the number of the fault.
 pub(crate) fn write_head(
     text: &mut String,
     location: Option<Location>,
@@ -158,7 +158,7 @@ fn behind<'a>(text: &'a str, mark: &str) -> &'a str {
     }
 }
 
-/// Appends the sentence of a fault without the section and the place that the head has.
+/// Appends the sentence of a fault without the section and the location that the head has.
 pub(crate) fn write_sentence(
     alloc: Global,
     text: &mut String,

@@ -1,5 +1,6 @@
-//! The faults of a text of sources besides the one for which the input is refused: the first of each other source that
-//! can be judged alone, and the operators of other languages everywhere. The report (reporting.rt) ends with them.
+//! The faults of a text of sources besides the fault that the input is refused for: the first of every other source
+//! that can be judged separately, and the operators of other languages everywhere. The report (reporting.rt) ends with
+//! them.
 
 use crate::heading::Label;
 use crate::reporting::{Context, write_fault, write_reason};
@@ -36,7 +37,7 @@ struct Others<'a, 's> {
     more: usize,
 }
 
-/// Returns the messages on the faults of the text of sources besides the one at a location, each on lines of its own
+/// Returns the messages on the faults of the text of sources besides the one at a location, each on separate lines
 /// after a line feed. `Memory`: memory ran out.
 pub(crate) fn others_than(context: Context<'_, '_>, first: Place) -> Result<String, Memory> {
     let mut others = Others {

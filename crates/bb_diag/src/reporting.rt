@@ -24,8 +24,8 @@ pub struct Input<'a> {
     pub units: &'a str,
     pub sources: &'a str,
     pub bundle: &'a str,
-    /// The whole input, if the sections were cut from one. Messages then begin with its lines, as `input:7:12: `, else with
-    /// those of a section, as `%sources:4:12: `.
+    /// The whole input, if the sections were cut from one. Messages then begin with its lines, as `input:7:12: `, else
+    /// with the lines of a section, as `%sources:4:12: `.
     pub whole: Option<&'a str>,
 }
 
@@ -54,11 +54,12 @@ pub(crate) struct Context<'a, 's> {
     pub(crate) input: Input<'a>,
 }
 
-/// Explains to people why an input is refused. First comes the head: where the fault is, as editors read it, and its
-/// number. Then comes the sentence of the fault; for a text of sources, this has what was found and what was expected.
-/// Below it, on separate lines, is what can be shown of the location: names, the line of a text with a caret under the
-/// column, or what an op found and what it needs. If the fault is in the text of sources, messages on the faults of its
-/// other sources follow, as memory allows. The text does not end in a line feed. `Memory`: memory ran out.
+/// Explains to people why an input is refused. First comes the head: the location of the fault, as editors read it, and
+/// its number. Then comes the sentence of the fault; for a text of sources, this has what was found and what was
+/// expected. Below it, on separate lines, follow the details of the location that can be shown: names, the line of a
+/// text with a caret under the column, or what an op found and what it needs. If the fault is in the text of sources,
+/// messages on the faults of its other sources follow, as memory allows. The text does not end in a line feed.
+/// `Memory`: memory ran out.
 pub fn report(alloc: Global, fault: &InputFault, input: Input<'_>) -> Result<String, Memory> {
     let mut text = String::new(alloc);
     if !is_of_sources(fault) {
@@ -114,8 +115,8 @@ pub(crate) fn write_message(
     note(alloc, text, fault, input)
 }
 
-/// Appends the message on a fault of a source in a piece of the text of sources, which may have the place of a word of
-/// the statement at fault. Returns the location of the fault itself, if it is in the text.
+/// Appends the message on a fault of a source in a piece of the text of sources, which may have the location of a word
+/// of the statement at fault. Returns the location of the fault itself, if it is in the text.
 pub(crate) fn write_fault(
     text: &mut String,
     context: Context<'_, '_>,
@@ -142,7 +143,7 @@ fn source_of(fault: &InputFault) -> &str {
     }
 }
 
-/// Appends the message on a fault in the text of sources: where it is, what is wrong, and its line. `source` is the name
+/// Appends the message on a fault in the text of sources: its location, the reason, and its line. `source` is the name
 /// of its source, empty if that is not known.
 pub(crate) fn write_reason(
     text: &mut String,

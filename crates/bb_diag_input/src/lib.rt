@@ -1,9 +1,9 @@
-//! Where a message is in an input, and what it shows of that: excerpts with a caret, quoted names, and the byte at which a
-//! document stops being JSON.
+//! Locations of messages in an input, with excerpts: a caret, quoted names, and the byte at which a document stops
+//! being JSON; and `documents`, the notes on refused documents.
 //!
 //! - In: texts of an input, and the line and column, or the byte, of a fault.
-//! - Out: `write_excerpt`, `write_quoted` and others, which append to a message; `Section` and `SectionLine`, with which a
-//!   message begins; `fault_at`, the first byte at which a document stops being JSON.
+//! - Out: `write_excerpt`, `write_quoted` and others, which append to a message; `Section` and `SectionLine`, the
+//!   beginning of a message; `fault_at`, the first byte at which a document stops being JSON; the notes of `documents`.
 //! - Callers rely on: control characters of an input are shown as blanks.
 //! - Family: bb_diag_text adds tokens, and hands these on.
 //! - Cases: `sentences`.

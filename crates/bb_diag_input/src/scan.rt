@@ -1,4 +1,4 @@
-//! Scans the tokens of JSON for the first byte that can't occur where it does. The notes on documents call it.
+//! Scans the tokens of JSON for the first byte that can't occur at its position. The notes on documents call it.
 
 use bb_basis::Memory;
 use std::alloc::Global;
@@ -55,7 +55,7 @@ struct Scan {
     open: Vec<bool>,
 }
 
-/// Returns the first byte of a text, from 0, that can't occur where it does; the position after the last token if the
+/// Returns the first byte of a text, from 0, that can't occur at its position; the position after the last token if the
 /// text ends too early; or `None` if the text has the tokens of JSON in a valid order.
 pub fn fault_at(alloc: Global, text: &str) -> Result<Option<usize>, Memory> {
     let mut scan = Scan {

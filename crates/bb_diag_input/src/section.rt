@@ -1,5 +1,5 @@
-//! A section of an input, and where messages about it are. A message begins with the line of the whole input, as editors
-//! read it; a note has the line of the section.
+//! A section of an input, and the locations of messages about it. A message begins with the line of the whole input, as
+//! editors read it; a note has the line of the section.
 
 use crate::words::{begin_line, write_quoted, write_shown};
 use bb_basis::Memory;
@@ -20,7 +20,7 @@ impl Section<'_> {
         Some((header as u64).saturating_add(1))
     }
 
-    /// Returns a line of the section, from 1, with what its number is shown by.
+    /// Returns a line of the section, from 1, with the values needed to show its number.
     pub fn line(self, line: u64) -> SectionLine {
         SectionLine {
             header: self.header,
@@ -40,7 +40,8 @@ pub struct SectionLine {
 }
 
 impl SectionLine {
-    /// Appends where the line is: its number in the input, or that in the section if the input is not known.
+    /// Appends the location of the line: its number in the input, or its number in the section if the input is not
+    /// known.
     pub fn write_place(self, text: &mut String) -> Result<(), Memory> {
         match self.lines_before {
             Some(before) => write!(text, "input:{}", self.line.saturating_add(before)),

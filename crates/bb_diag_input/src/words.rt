@@ -42,8 +42,8 @@ pub fn write_phrase(text: &mut String, phrase: &str, name: &str) -> Result<(), M
     write_quoted(text, name)
 }
 
-/// Appends a note: what something is called and what is wrong with it, separated by a colon if both are present.
-/// Appends nothing if both are empty.
+/// Appends a note: the description of something and its flaw, separated by a colon if both are present. Appends nothing
+/// if both are empty.
 pub fn write_note(text: &mut String, called: &str, flaw: &str) -> Result<(), Memory> {
     if called.is_empty() && flaw.is_empty() {
         return Ok(());

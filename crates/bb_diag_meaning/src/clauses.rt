@@ -1,4 +1,4 @@
-//! The message on a clause of a source that does not fit its class: where it is, and what is wrong with it.
+//! The message on a clause of a source that does not fit its class: the location of the clause, and its fault.
 
 use crate::unknown::{write_no_class, write_no_slot_of, write_no_space};
 use bb_basis::Memory;
@@ -27,7 +27,7 @@ pub struct Clause<'a> {
     pub index: usize,
 }
 
-/// Where a clause or a statement is at fault, and what is wrong with it.
+/// The location of the fault of a clause or a statement, and its explanation.
 #[derive(Drop)]
 pub struct Reason {
     pub place: Place,
@@ -69,8 +69,8 @@ fn class_before<'a>(tokens: &[Token<'a>], index: usize) -> &'a str {
     }
 }
 
-/// Explains what is wrong with a clause of a text of sources; `None` if the text lacks the clause or nothing wrong is
-/// found. The source is the first one with the name in a piece of a text. `Memory`: memory ran out.
+/// Explains the fault of a clause of a text of sources; `None` if the text lacks the clause or no fault is found. The
+/// source is the first one with the name in a piece of a text. `Memory`: memory ran out.
 pub fn explain_clause(
     alloc: Global,
     schema: &Schema,
@@ -85,8 +85,8 @@ pub fn explain_clause(
     reason_at(alloc, schema, tokens.as_slice(), index, own)
 }
 
-/// Explains what is wrong with the first clause of a source that does not fit; `None` if all fit. The source is the
-/// first one with the name in a piece of a text. `Memory`: memory ran out.
+/// Explains the fault of the first clause of a source that does not fit; `None` if all fit. The source is the first one
+/// with the name in a piece of a text. `Memory`: memory ran out.
 pub fn explain_clauses(
     alloc: Global,
     schema: &Schema,

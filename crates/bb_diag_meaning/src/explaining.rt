@@ -15,7 +15,7 @@ use std::alloc::Global;
 // The maximum number of tokens of a statement that is examined: the time is quadratic in it.
 const LONGEST: usize = 8_192;
 
-/// The fault of a source, and where it is.
+/// The fault of a source, and its location.
 #[derive(Clone, Copy, Debug)]
 pub struct Found<'a> {
     /// The name of the source.
@@ -24,9 +24,9 @@ pub struct Found<'a> {
     pub place: Place,
 }
 
-/// Explains what is wrong with the statement at the location of a fault: the word at fault, or else the statement, and a
-/// text without a line feed; `None` if there is nothing to add to the fault's own sentence. The source is the first one
-/// with the name in a piece of a text. `Memory`: memory ran out.
+/// Explains the fault in the statement at the fault's location: the word at fault, or else the statement, and a text
+/// without a line feed; `None` if there is nothing to add to the fault's own sentence. The source is the first one with
+/// the name in a piece of a text. `Memory`: memory ran out.
 pub fn explain_statement(
     alloc: Global,
     schema: &Schema,

@@ -5,8 +5,8 @@
 //! - Out: `explain_statement`, and `explain_clause` for a clause: the message, if there is anything to add to the
 //!   fault's number; `explain_clauses`, the message on the first clause of a source that does not fit.
 //! - Callers rely on: messages are for people. The statement is examined again, by its tokens and by what the names
-//!   before it hold; if nothing wrong is found, there is no message.
-//! - Family: bb_diag_source has what is known at a statement; bb_compile_scope has the rules of slots and kinds.
+//!   before it hold; if no fault is found, no message is returned.
+//! - Family: bb_diag_source has the facts known at a statement; bb_compile_scope has the rules of slots and kinds.
 //! - Cases: `sentences`.
 #![tactic(auto)]
 

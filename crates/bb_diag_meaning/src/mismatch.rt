@@ -4,7 +4,9 @@ use crate::operations::{write_due, write_looped, write_no_unit, write_operands};
 use bb_basis::Memory;
 use bb_code::Kind;
 use bb_compile_scope::{assigned, class_of, link_slot, partner_slot, value_slot};
-use bb_diag_source::scope::{Judge, Statement, kind_of, position_of, word_at, write_kind, write_value};
+use bb_diag_source::scope::{
+    Judge, Statement, kind_of, position_of, word_at, write_kind, write_value,
+};
 use bb_diag_text::Token;
 use std::fmt::Write;
 

@@ -71,7 +71,7 @@ pub(crate) fn write_operands(
     write_parts(text, judge, parts, value.len())
 }
 
-/// Appends why a unit's slot is not a sequence, or what is wrong in the tests of a search, if anything is.
+/// Appends why a unit's slot is not a sequence, or the fault in the tests of a search, if there is one.
 pub(crate) fn write_looped(
     text: &mut String,
     judge: &Judge<'_, '_>,

@@ -1,4 +1,4 @@
-//! The messages on statements in the wrong place, and on limits.
+//! The messages on misplaced statements, and on limits.
 
 use crate::unknown::is_relation;
 use bb_basis::{Memory, Names};
@@ -12,7 +12,7 @@ use std::fmt::Write;
 // The maximum nesting of loops.
 const MOST_LOOPS: usize = 4;
 
-/// Appends which change was found, and in which part.
+/// Appends the change that was found, and the part that has it.
 pub(crate) fn write_effect(
     text: &mut String,
     judge: &Judge<'_, '_>,

@@ -21,7 +21,7 @@ fn is_used(tokens: &[Token<'_>], index: usize) -> bool {
     }
 }
 
-/// Appends which unit may be gone, and why, and returns where its name is.
+/// Appends which unit may be gone, and why, and returns the location of its name.
 pub(crate) fn write_gone(
     text: &mut String,
     judge: &Judge<'_, '_>,

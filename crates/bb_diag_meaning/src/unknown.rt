@@ -69,7 +69,7 @@ fn role_of(tokens: &[Token<'_>], index: usize) -> Role {
     Role::Name
 }
 
-/// Appends which name of a statement is unknown, and returns where it is.
+/// Appends which name of a statement is unknown, and returns its location.
 pub(crate) fn write_unknown(
     text: &mut String,
     judge: &Judge<'_, '_>,
@@ -84,7 +84,7 @@ pub(crate) fn write_unknown(
     Ok(None)
 }
 
-/// Returns where a token begins.
+/// Returns the location of the start of a token.
 pub(crate) fn place_of(token: &Token<'_>) -> Place {
     Place {
         line: token.line,

@@ -1,4 +1,4 @@
-//! The message on a character that begins no token: what it is called, and what to write instead.
+//! The message on a character that begins no token: its name, and the text to write instead.
 
 use crate::slips::write_slip;
 use bb_basis::Memory;

@@ -31,9 +31,8 @@ fn kind_of(fault: LangFault) -> Option<(Kind, Place)> {
     }
 }
 
-/// Explains what is wrong at the location of a fault in a piece of a text, without a line feed; `None` if there is
-/// nothing to add to the fault's own sentence. The location is that in the whole text, `source`. `Memory`: memory ran
-/// out.
+/// Explains the fault at a location in a piece of a text, without a line feed; `None` if nothing can be added to the
+/// fault's own sentence. The location is given for the whole text, `source`. `Memory`: memory ran out.
 pub fn explain(
     alloc: Global,
     source: &str,

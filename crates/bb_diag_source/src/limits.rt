@@ -1,4 +1,4 @@
-//! The messages on names already taken, on nested brackets, and on what is too large.
+//! The messages on names already taken, on nested brackets, and on exceeded limits.
 
 use bb_basis::{Memory, NAME_LIMIT};
 use bb_diag_text::{Spot, TokenKind, source_line, write_phrase};
@@ -24,7 +24,7 @@ pub(crate) fn write_twice(text: &mut String, spot: &Spot<'_>, source: &str) -> R
     text.push_str("choose another one")
 }
 
-/// Appends how many brackets are open, of which kinds, and how to have fewer.
+/// Appends the number of open brackets, in all and by kind, and how to have fewer.
 pub(crate) fn write_nesting(text: &mut String, spot: &Spot<'_>) -> Result<(), Memory> {
     let count = spot.open.len();
     let blocks = spot.open.iter().filter(|it| it.token.is("{")).count();
@@ -42,7 +42,7 @@ pub(crate) fn write_nesting(text: &mut String, spot: &Spot<'_>) -> Result<(), Me
     text.push_str("; name a part of the value by let n = E; before the statement")
 }
 
-/// Appends what is too large.
+/// Appends the limit that is exceeded at the location.
 pub(crate) fn write_limit(text: &mut String, spot: &Spot<'_>) -> Result<(), Memory> {
     match spot.at.kind {
         TokenKind::Int => write_number(text, spot),

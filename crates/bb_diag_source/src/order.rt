@@ -31,7 +31,7 @@ fn part_behind<'a>(spot: &Spot<'a>, rank: usize) -> Option<&'a str> {
         .find(|part| rank_of(part).is_some_and(|it| it > rank))
 }
 
-/// Appends what is wrong with the part at the location, and returns whether there is such a part.
+/// Appends the fault of the part at the location, and returns whether the location has such a part.
 pub(crate) fn write_order(text: &mut String, spot: &Spot<'_>) -> Result<bool, Memory> {
     let Some(rank) = rank_of(spot.at.text) else {
         return Ok(false);

@@ -1,9 +1,9 @@
-//! What is known at a statement of a source's text, for messages: its tokens, the names in scope and what they hold,
-//! the kind of a value, and the names of a schema.
+//! The scope of a statement of a source's text, for messages: its tokens, the names in scope and what they hold, the
+//! kind of a value, and the names of a schema.
 //!
 //! - In: a schema, and the tokens of a source.
-//! - Out: `Statement`, the tokens of one; `Judge`, what is known before it; `kind_of`; lists of names.
-//! - Callers rely on: this is for messages. The compiler (bb_compile_scope) decides what a name holds; this is read
+//! - Out: `Statement`, the tokens of one; `Judge`, the scope before it; `kind_of`; lists of names.
+//! - Callers rely on: this is for messages. The compiler (bb_compile_scope) decides what a name holds; here it is read
 //!   from the tokens, as far as they show it.
 //! - Family: bb_diag_meaning writes messages from it.
 //! - Cases: `sentences`.

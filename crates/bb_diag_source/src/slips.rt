@@ -4,8 +4,8 @@
 //! A row is `HEAD | BEFORE @ AT | DUE | SENTENCE`. HEAD is the first word of the construct with the fault, DUE
 //! something that could come there; `*` for either matches anything. BEFORE are the tokens before the fault, AT the
 //! token at the fault and the ones after it: words and symbols as written, or NAME, WORD, INT, TEXT, ANY. In a sentence
-//! `$at`, `$before`, `$first` and `$third` stand for the token at the fault and the ones before it, the nearest first;
-//! `$behind` and `$last` stand for the ones after it.
+//! `$at`, `$before`, `$first` and `$third` mean the token at the fault and the ones before it, the nearest first;
+//! `$behind` and `$last` mean the ones after it.
 
 use crate::statement_slips::{OUTER_SLIPS, STATEMENT_SLIPS};
 use crate::value_slips::{PATTERN_SLIPS, VALUE_SLIPS};

@@ -9,7 +9,7 @@ use bb_diag_text::{
 };
 use std::fmt::Write;
 
-/// Appends what is at the location, and what was expected there.
+/// Appends the token at the location, and the tokens expected there.
 pub(crate) fn write_token(text: &mut String, spot: &Spot<'_>) -> Result<(), Memory> {
     if spot.due.is_empty() {
         return Ok(());

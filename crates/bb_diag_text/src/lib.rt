@@ -1,13 +1,14 @@
 //! The tokens of a text of sources, for messages, and what the grammar expects at a location.
 //!
 //! - In: a text of sources, and the line and column of a fault.
-//! - Out: `look`, a `Spot`: the tokens around a location, the tokens expected there, the open brackets, and the parts that
-//!   the source has so far; `list_sources` and `source_tokens`, the tokens of sources; `Pieces`, a text cut where sources
-//!   begin; `Operators`, the operators of other languages in a piece; `FirstFocus`, a focus among the initial units.
-//! - Callers rely on: the parser (bb_lang) decides what a text is; the grammar here only serves messages, and a `Spot`
-//!   expects nothing if this grammar lacks the tokens before it.
-//! - Family: bb_diag_input shows pieces of an input, and is handed on here; bb_diag_source writes sentences from a `Spot`;
-//!   bb_diag_source and bb_lint_parts find locations by tokens.
+//! - Out: `look`, a `Spot`: the tokens around a location, the tokens expected there, the open brackets, and the parts
+//!   that the source has so far; `list_sources` and `source_tokens`, the tokens of sources; `Pieces`, a text cut at the
+//!   beginning of each source; `Operators`, the operators of other languages in a piece; `FirstFocus`, a focus among
+//!   the initial units.
+//! - Callers rely on: the parser (bb_lang) decides how a text is read; the grammar here only serves messages, and a
+//!   `Spot` expects nothing if this grammar lacks the tokens before it.
+//! - Family: bb_diag_input shows pieces of an input, and is re-exported here; bb_diag_source writes sentences from a
+//!   `Spot`; bb_diag_source and bb_lint_parts find locations by tokens.
 //! - Cases: `sentences`.
 #![tactic(auto)]
 

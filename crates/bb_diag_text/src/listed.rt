@@ -1,5 +1,5 @@
-//! The sources of a text by name: where each begins, and its tokens. Messages on names search here, and so do crates
-//! that locate something in an accepted text (bb_lint_parts).
+//! The sources of a text by name: the beginning and the tokens of each. Messages on names search here, and crates that
+//! locate something in an accepted text (bb_lint_parts) do too.
 
 use crate::pieces::Piece;
 use crate::token::{Token, TokenKind, Tokens};
@@ -92,14 +92,14 @@ pub fn list_sources(alloc: Global, text: &str) -> Result<Vec<ListedSource<'_>>, 
     Ok(list)
 }
 
-/// Returns the line where a text first begins a source with a name.
+/// Returns the line of the first beginning of a source with a name in a text.
 pub fn source_line(text: &str, name: &str) -> Option<u64> {
     let source = find(Piece::whole(text), name)?;
     Some(source.name.line)
 }
 
 /// Lists the tokens of a source after its name: of the first one with the name from the beginning of a piece on; empty
-/// if there is none.
+/// if the source is missing.
 pub fn source_tokens<'a>(
     alloc: Global,
     piece: Piece<'a>,

@@ -1,5 +1,5 @@
-//! Operators of other languages in a text of sources: `!=`, `>`, `+=`, `&&` and others, and comments after `#`. They are
-//! found wherever they are, and read as what the language has instead, so that what follows is understood.
+//! Operators of other languages in a text of sources: `!=`, `>`, `+=`, `&&` and others, and comments after `#`. They
+//! are found anywhere, and read as their counterparts in the language, so that the text after them is understood.
 
 use crate::pieces::Piece;
 use crate::spot::{Spot, View};
@@ -60,7 +60,7 @@ impl<'a> Operators<'a> {
         Ok(None)
     }
 
-    /// Returns what is known at the one that was returned last.
+    /// Returns the spot of the last one that `take` returned.
     pub fn spot(&self) -> Result<Spot<'a>, Memory> {
         self.view.spot(self.alloc)
     }

@@ -1,4 +1,5 @@
-//! A text of sources cut where sources begin, so that each can be read alone, whatever is wrong with the others.
+//! A text of sources, cut at the beginning of each, so that each can be read by itself, regardless of faults in the
+//! others.
 
 use crate::symbol::is_reserved;
 use crate::token::{Token, TokenKind, Tokens};
@@ -26,7 +27,7 @@ impl<'a> Piece<'a> {
         }
     }
 
-    /// Returns the text of the piece alone.
+    /// Returns only the text of the piece.
     pub fn own(self) -> &'a str {
         self.text.get(..self.len).unwrap_or(self.text)
     }

@@ -17,7 +17,7 @@ pub struct Bracket<'a> {
     pub head: &'a str,
 }
 
-/// A location of a text, and what is known there.
+/// A location of a text and its context.
 #[derive(Drop)]
 pub struct Spot<'a> {
     /// The token at the location.
@@ -39,7 +39,7 @@ pub struct Spot<'a> {
     pub parts: Vec<&'a str>,
 }
 
-/// A way through the tokens of a piece, with what is known at each.
+/// A path through the tokens of a piece, with the context of each.
 #[derive(Drop)]
 pub(crate) struct View<'a> {
     walk: Walk<'a>,
@@ -102,7 +102,7 @@ impl<'a> View<'a> {
         }
     }
 
-    /// Returns what is known at the token.
+    /// Returns the spot of the token.
     pub(crate) fn spot(&self, alloc: Global) -> Result<Spot<'a>, Memory> {
         let mut tokens = self.tokens;
         Ok(Spot {
@@ -120,8 +120,8 @@ impl<'a> View<'a> {
     }
 }
 
-/// Returns what is known at a location of a text, which is that of a token in a piece of it. Line and column are those
-/// of the whole text. `Memory`: memory ran out.
+/// Returns the spot of a location of a text: the location of a token in a piece of it. Line and column are counted in
+/// the whole text. `Memory`: memory ran out.
 pub fn look<'a>(
     alloc: Global,
     piece: Piece<'a>,

@@ -56,7 +56,7 @@ impl Due {
         }
     }
 
-    /// Returns what it is called: `a statement`, `a class`; empty for a word.
+    /// Returns its description: `a statement`, `a class`; empty for a word.
     pub fn called(&self) -> &'static str {
         match (self.begins, self.symbol) {
             (Some(called), _) => called,
@@ -80,8 +80,8 @@ impl Due {
 }
 
 impl Symbol {
-    /// Returns whether a token is this terminal. Only tokens accepted by the parser are walked over, so a word that is
-    /// a name there is not a reserved one.
+    /// Returns whether a token is this terminal. Only tokens accepted by the parser are walked over; therefore a word
+    /// that is a name there is not a reserved one.
     pub(crate) fn is(self, token: Token<'_>) -> bool {
         match self {
             Symbol::Word(word) => token.is(word),

@@ -16,11 +16,11 @@ pub enum TokenKind {
     Symbol,
     /// A character that begins no token, or a quote that begins no valid text constant.
     Other,
-    /// The end of the text, and what is before its start.
+    /// The end of the text, and anything before its start.
     End,
 }
 
-/// A token, and where it begins. Line and column count from 1, columns in characters.
+/// A token and the location of its beginning. Line and column count from 1, columns in characters.
 #[derive(Clone, Copy, Debug)]
 pub struct Token<'a> {
     pub kind: TokenKind,
@@ -93,7 +93,7 @@ impl<'a> Tokens<'a> {
         }
     }
 
-    /// Passes what is left of the line.
+    /// Passes the rest of the line.
     pub(crate) fn pass_line(&mut self) {
         let len = self.rest.iter().take_while(|byte| **byte != b'\n').count();
         let _passed = self.pass(len);

@@ -1,5 +1,5 @@
-//! The walk over the tokens before a fault. It keeps a stack of the symbols still expected, and what is open. `look`
-//! calls it.
+//! The walk over the tokens before a fault. It keeps a stack of the symbols still expected, the open brackets, and the
+//! parts of the source. `look` calls it.
 
 use crate::outer_rules::OuterRule;
 use crate::spot::Bracket;

@@ -1,4 +1,4 @@
-//! Readers of atoms: expressions without parts. The reader of expressions calls `read_atom` where no bracket opens.
+//! Readers of atoms: expressions without parts. The reader of expressions calls `read_atom` if no bracket opens.
 
 ghost use Rattle.std.specs.Prelude.{◌≡◌, OnOk};
 ghost use Rattle.bb_basis.specs.Results.{Gives};

@@ -2,8 +2,8 @@
 //!
 //! - In: the text of sources.
 //! - Out: `parse`, one tree for each source, or the first `LangFault` with its line and column.
-//! - Callers rely on: no more than `NESTING_LIMIT` brackets are open at any place, which limits the depth of trees, and
-//!   there are at most `SOURCE_LIMIT` sources.
+//! - Callers rely on: no more than `NESTING_LIMIT` brackets are open at any location, which limits the depth of trees,
+//!   and there are at most `SOURCE_LIMIT` sources.
 //! - Family: bb_lang_tree has the tokens and the types of the trees.
 //! - Cases: `limits_of_texts`, `refused_sources`, `model-bent_texts`; tests in bb_rules_tests.
 #![tactic(auto)]

@@ -1,4 +1,4 @@
-//! Variables, atoms and operators, of which expressions and patterns are built.
+//! Variables, atoms and operators: expressions and patterns are built from them.
 
 use bb_basis::Text;
 
@@ -33,7 +33,7 @@ pub enum Atom {
     Bool(bool),
     /// `set: label`.
     Label { set: Text, label: Text },
-    /// The unit or value that a name stands for.
+    /// The unit or value of a name.
     Variable(Variable),
     /// `unit.slot`: the value that a unit has in a slot.
     Slot { unit: Variable, slot: Text },

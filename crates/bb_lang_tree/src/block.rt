@@ -100,7 +100,7 @@ impl Drop for Action {
 
 /// What a `with` declares: a name for a unit that passes the test.
 pub enum Binding {
-    /// `name = unit as class`: tests that the unit exists and is of the class.
+    /// `name = unit as class`: tests that the unit exists and belongs to the class.
     As {
         name: Text,
         unit: Variable,
@@ -139,7 +139,7 @@ pub struct Block {
     statements: Vec<Placed>,
 }
 
-/// A statement with the place of its first token.
+/// A statement with the location of its first token.
 #[cycle(block)]
 #[derive(Drop)]
 pub struct Placed {

@@ -1,4 +1,4 @@
-//! The values of numbers and text constants. Readers of the grammar call these functions where they expect one.
+//! The values of numbers and text constants. Readers of the grammar call these functions if they expect one.
 
 ghost use Rattle.std.specs.Prelude.{◌≡◌, ◌≤◌, ◌<◌, ◌^◌, pos, neg_ℤ, nat_le, drop, Some, None, if◌then◌else◌, false, IfOk, IfSome, OnOk};
 ghost use Rattle.std.specs.Str.Lossy.{utf8_lossy};

@@ -53,7 +53,7 @@ impl<'a> Model for Parser<'a> {
 }
 
 impl<'a> Parser<'a> {
-    /// Creates a parser before the first token of a text. No bracket may be opened until `set_nesting` says how many.
+    /// Creates a parser before the first token of a text. No bracket may be opened until `set_nesting` allows it.
     pub fn new(alloc: Global, text: &'a [u8]) -> Parser<'a>
         ensures { result ≡ record { state = before text.now; nesting = 0 } }
     {
@@ -93,7 +93,7 @@ impl<'a> Parser<'a> {
         Ok(())
     }
 
-    /// Returns where the token begins.
+    /// Returns the location of the token.
     pub fn place(&self) -> Place
         ensures { result ≡ self.now.state.place }
     {
@@ -121,7 +121,7 @@ impl<'a> Parser<'a> {
         self.advance()
     }
 
-    /// Returns how many bytes are left, including those of the token.
+    /// Returns the number of bytes left, including the token's bytes.
     pub fn left(&self) -> usize
         ensures { result ≡ left self.now.state }
     {

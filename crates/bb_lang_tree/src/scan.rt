@@ -1,4 +1,4 @@
-//! The scanner: where tokens begin and end. The parser asks for one token at a time.
+//! The scanner: finds the beginning and the end of each token. The parser asks for one token at a time.
 
 ghost use Rattle.std.specs.Prelude.{◌≡◌, ◌≤◌, length, Some, None, IfSome, false};
 ghost use Rattle.std.specs.List.{take_while};
@@ -160,8 +160,8 @@ fn int_len(bytes: &[u8]) -> usize
         .count()
 }
 
-/// Returns the kind and the length of the token at the front of bytes that do not begin with a blank or comment.
-/// `None`: no token begins so.
+/// Returns the kind and the length of the token at the start of bytes that do not begin with a blank or comment.
+/// `None`: the bytes do not begin with a token.
 #[tactic(auto, unfolding(crate::specs::Tokens::token_at))]
 pub(crate) fn token_at(bytes: &[u8]) -> Option<(TokenKind, usize)>
     ensures token { result ≡ token_at bytes.now }

@@ -9,8 +9,8 @@ use std::alloc::Global;
 use std::collections::BTreeSet;
 use std::marker::Model;
 
-/// Distinct names, in the order of declaration. Names are looked up in an ordered set, not by a hash, so no choice of
-/// names makes it slow. Contracts see the list.
+/// Distinct names, in the order of declaration. Names are looked up in an ordered set, not by a hash; therefore no
+/// choice of names makes it slow. Contracts see the list.
 pub(crate) struct Scope {
     names: Vec<String>,
     found: BTreeSet<String>,

@@ -90,7 +90,7 @@ impl Clone for ClauseText {
     }
 }
 
-/// A part of a source that is a block, with the place of its first token.
+/// A part of a source that is a block, with the location of its first token.
 pub struct PartText {
     pub place: Place,
     pub block: Block,
@@ -103,8 +103,8 @@ impl Drop for PartText {
     }
 }
 
-/// What a source does about its pending activations when certain events happen, with the places of its first token
-/// and of `on`.
+/// A source's action on its pending activations when certain events happen, with the locations of its first token and
+/// of `on`.
 pub struct ReactionText {
     pub place: Place,
     pub on: Place,
@@ -144,7 +144,7 @@ impl Drop for ActText {
     }
 }
 
-/// The name of a source, and the class of the units that it works on, with the place of `on`.
+/// The name of a source, and the class of the units that it works on, with the location of `on`.
 pub struct HeaderText {
     pub name: Text,
     pub on: Place,

@@ -1,4 +1,4 @@
-//! Names and reserved words. Readers of the grammar call these functions where they expect a name.
+//! Names and reserved words. Readers of the grammar call these functions if they expect a name.
 
 ghost use Rattle.std.specs.Prelude.{◌≡◌, true, IfOk, OnOk};
 ghost use Rattle.std.specs.List.{list_all};
@@ -86,7 +86,7 @@ impl<'a> Parser<'a> {
         self.member_at()
     }
 
-    /// Reads a name after a `.`, where reserved words are names too. `Token`: it is not a word. `Limit`: it is too
+    /// Reads a name after a `.`; reserved words are names there too. `Token`: it is not a word. `Limit`: it is too
     /// long.
     #[tactic(auto, unfolding(crate::specs::Words::member))]
     pub fn read_member(&mut self) -> Result<Text, LangFault>

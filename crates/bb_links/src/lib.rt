@@ -3,7 +3,7 @@
 //!
 //! - In: pairs to link and to unlink, and units to clear.
 //! - Out: `Couples`, and `Taken`, the pairs that a link removed.
-//! - Callers rely on: both ends of a link are one pair, so they always agree.
+//! - Callers rely on: both ends of a link are one pair and therefore always agree.
 //! - Cases: `links`, `linking`, `model-links`.
 #![tactic(auto)]
 

@@ -1,4 +1,4 @@
-//! A list of numbers for each unit. `couples.rt` stores the couples in which each unit may have a pair.
+//! A list of numbers for each unit. `couples.rt` stores, for each unit, the couples that may have a pair with the unit.
 
 ghost use Rattle.std.specs.Prelude.{◌≡◌, ℕ, [], OnOk, OnErr, IsSome};
 ghost use Rattle.std.specs.Ordering.{nat_cmp};

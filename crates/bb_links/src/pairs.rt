@@ -16,8 +16,8 @@ use std::alloc::{AllocError, Global};
 use std::collections::BTreeMap;
 use std::marker::Model;
 
-/// Pairs of units in order of addition, the unit at side A first. Each has a stamp, and the stamps rise, so no change
-/// scans all pairs.
+/// Pairs of units in order of addition, the unit at side A first. Each has a stamp, and the stamps rise; therefore no
+/// change scans all pairs.
 #[derive(Drop)]
 pub(crate) struct Pairs {
     // The stamp of the next pair.

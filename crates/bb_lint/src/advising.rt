@@ -45,10 +45,10 @@ struct Known {
 }
 
 /// Returns the advice on an accepted input for people; every line ends in a line feed. First come warnings about
-/// definite mistakes: names in the schema, foci among the initial units, then source by source and part by part. Then, if there are sources, come a
-/// table of what their parts cost and the costs that depend on what exists. A warning about a source that is text has
-/// its line and column, and the line of the input with a caret below; one about bytecode has the op. `Memory`: memory
-/// ran out.
+/// definite mistakes: names in the schema, foci among the initial units, then source by source and part by part. Then,
+/// if there are sources, come a table of what their parts cost and the costs that depend on what exists. A warning
+/// about a source that is text has its line and column, and the line of the input with a caret below; one about
+/// bytecode has the op. `Memory`: memory ran out.
 pub fn advice(alloc: Global, input: Accepted<'_>) -> Result<String, Memory> {
     let Accepted {
         schema,

@@ -1,4 +1,4 @@
-//! Warnings about foci among the initial units that name a source or a class that is not there.
+//! Warnings about foci among the initial units that name a missing source or class.
 
 use bb_basis::{Memory, Names};
 use bb_diag_text::{FirstFocus, write_quoted};
@@ -15,8 +15,8 @@ fn write_focus(text: &mut String, index: usize, called: &str, name: &str) -> Res
     text.push_str(", so the focus weighs nothing\n")
 }
 
-/// Appends the foci among the initial units whose source is not among these names, or whose area is no class. The empty
-/// name means all.
+/// Appends the foci among the initial units whose source is not among these names, or whose area is not a class. The
+/// empty name means all.
 pub(crate) fn write_foci(
     text: &mut String,
     schema: &Schema,

@@ -25,7 +25,7 @@ pub(crate) enum Mistake<'a> {
 }
 
 impl Mistake<'_> {
-    /// Returns what the warning about it is, as editors read it.
+    /// Returns the kind of the warning about it, as editors read it.
     pub(crate) fn kind(self) -> &'static str {
         match self {
             Mistake::NoSource(_) | Mistake::NoArea(_) => "warning[focus]",

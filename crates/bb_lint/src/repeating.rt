@@ -31,7 +31,7 @@ fn is_unasked(floor: i64, source: &Source) -> bool {
 }
 
 /// Returns the index of the first trigger of a source that its own act brings about each time, if there is one: that a
-/// unit is created, or that a slot is set. Links and entries that are there already are no events.
+/// unit is created, or that a slot is set. Links and entries that already exist are not events.
 pub(crate) fn is_repeated(
     alloc: Global,
     schema: &Schema,

@@ -77,7 +77,7 @@ fn warn_of_queries(warnings: &mut Vec<Warning>, code: &Code, named: &[bool]) -> 
     Ok(())
 }
 
-/// Returns the warnings about a code: first those of its ops, in order, then those of its queries.
+/// Returns the warnings about a code: first about its ops, in order, then about its queries.
 pub(crate) fn code_warnings(
     alloc: Global,
     schema: &Schema,

@@ -1,5 +1,5 @@
-//! Costs that depend on what is on the blackboard and the agenda, which budgets do not show: reactions, searches that
-//! no test bounds, and searches used only to learn whether anything is found. `write_costs` writes them below the
+//! Costs that depend on the contents of the blackboard and the agenda, which budgets do not show: reactions, searches
+//! that no test bounds, and searches used only to learn whether anything is found. `write_costs` writes them below the
 //! table.
 
 use crate::costs::Costed;

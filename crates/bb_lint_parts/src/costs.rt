@@ -83,7 +83,7 @@ fn write_lines(text: &mut String, widths: &Widths, source: &Source) -> Result<()
     Ok(())
 }
 
-/// Sources whose costs are told, and what is known of them.
+/// Sources whose costs are reported, and the facts known about them.
 #[derive(Clone, Copy)]
 pub struct Costed<'a, 'c> {
     pub schema: &'a Schema,

@@ -1,5 +1,5 @@
-//! Which spaces can hold many units: by the initial units, and by what the acts of sources create and let enter. Costs of
-//! searches are told of these alone.
+//! Which spaces can hold many units: by the initial units, and by what the acts of sources create and let enter. Costs
+//! of searches are reported only for these.
 
 use bb_basis::Memory;
 use bb_board::{ChangeKind, Event, Note};
@@ -116,8 +116,8 @@ impl Seen {
         }
     }
 
-    // Returns whether a space can hold more than a few units. If no act lets units enter it, it holds those initial units
-    // that enter it at most; else all initial units that it admits, and all that acts create.
+    // Returns whether a space can hold more than a few units. If no act lets units enter it, it holds those initial
+    // units that enter it at most; else all initial units that it admits, and all that acts create.
     fn is_large(&self, schema: &Schema, space: SpaceId) -> bool {
         if !self
             .are_entered

@@ -1,9 +1,9 @@
-//! The locations of ops in the text of a part: of those that a search, a test of a unit or a `set` compiles to.
-//! Warnings and costs look up ops one by one.
+//! The locations, in the text of a part, of the ops that a search, a test of a unit or a `set` compiles to. Warnings
+//! and costs look up ops one by one.
 //!
 //! The compiler emits ops in the order of the text: each search is the query with its number, each `with .. as` begins
 //! one test, and each `set` becomes one `Set`. The locations of each sort therefore match its ops in order. They are
-//! used only if there are as many locations as ops.
+//! used only if the numbers of locations and ops are equal.
 
 use crate::outline::PartOutline;
 use crate::site::{Origin, Site};
@@ -116,7 +116,7 @@ impl<'a> OpSites<'a> {
         })
     }
 
-    /// Returns where an op is: the statement that makes it, if known, else its part.
+    /// Returns the site of an op: the statement that makes it, if known, else its part.
     pub fn at(&self, place: Place, op: Op) -> Site<'a> {
         match self.part {
             None => Site::Op { place, op },
@@ -130,7 +130,7 @@ impl<'a> OpSites<'a> {
         }
     }
 
-    /// Returns where the part is.
+    /// Returns the site of the part.
     pub fn part(&self) -> Site<'a> {
         match self.part {
             None => Site::Bytecode,

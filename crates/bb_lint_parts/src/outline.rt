@@ -1,5 +1,5 @@
-//! What is recorded of a source's text: where its clauses and parts are and, in every part, what makes the ops that
-//! advice mentions. The walk (outlining.rt) makes outlines, and sites are read from them.
+//! The record of a source's text: the locations of its clauses and parts and, in every part, the pieces that make the
+//! ops that advice mentions. The walk (outlining.rt) makes outlines, and sites are read from them.
 
 use crate::spot::Spot;
 use bb_rules::ClauseList;
@@ -19,7 +19,7 @@ pub(crate) struct Outline<'a> {
 /// Where the pieces of a part are.
 #[derive(Drop)]
 pub(crate) struct PartOutline<'a> {
-    /// The word of the part, and where it is.
+    /// The word of the part, and its location.
     pub(crate) word: &'a str,
     pub(crate) spot: Spot,
     /// Each `find`, in the order of the searches: one inside a test of another comes before that one.
@@ -31,7 +31,7 @@ pub(crate) struct PartOutline<'a> {
 }
 
 impl<'a> Outline<'a> {
-    /// Makes the outline of a source of which nothing is recorded yet.
+    /// Makes the outline of a source with nothing recorded yet.
     pub(crate) fn new(alloc: Global) -> Outline<'a> {
         Outline {
             rate: None,
@@ -42,7 +42,7 @@ impl<'a> Outline<'a> {
         }
     }
 
-    /// Returns where the clauses of a list begin.
+    /// Returns the start locations of the clauses of a list.
     pub(crate) fn clauses(&self, list: ClauseList) -> &[Spot] {
         match list {
             ClauseList::Triggers => self.triggers.as_slice(),

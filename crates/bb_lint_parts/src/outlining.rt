@@ -1,6 +1,6 @@
-//! The walk over the tokens of an accepted source, which records where its pieces are. `Texts` calls `outline`.
+//! The walk over the tokens of an accepted source, which records the locations of its pieces. `Texts` calls `outline`.
 //!
-//! Reserved words are names only after a `.`, so everywhere else a reserved word shows what it begins.
+//! Reserved words are names only after a `.`; everywhere else a reserved word therefore shows what it begins.
 
 use crate::outline::{Outline, PartOutline};
 use crate::spot::Spot;
@@ -36,7 +36,7 @@ struct Walk<'a> {
     before: Token<'a>,
 }
 
-/// Returns where the pieces of a source are.
+/// Returns the locations of the pieces of a source.
 pub(crate) fn outline<'a>(alloc: Global, source: &ListedSource<'a>) -> Result<Outline<'a>, Memory> {
     let mut walk = Walk {
         alloc,

@@ -1,5 +1,5 @@
-//! Where the subject of a line of advice is, and how the line shows that. Warnings (bb_lint) and the lines on costs begin
-//! and end with sites.
+//! Where the subject of a line of advice is, and how the line shows that. Warnings (bb_lint) and the lines on costs
+//! begin and end with sites.
 
 use crate::spot::Spot;
 use bb_basis::Memory;
@@ -51,7 +51,7 @@ pub enum Site<'a> {
 }
 
 impl Site<'_> {
-    /// Begins a line of advice: where it is, what it is, and, if no text follows, the names of the source and its part.
+    /// Begins a line of advice: its location, its kind, and, if no text follows, the names of the source and its part.
     pub fn begin(self, text: &mut String, subject: Subject<'_>) -> Result<(), Memory> {
         match self {
             Site::Text { .. } => self.write_head(text, subject.kind),

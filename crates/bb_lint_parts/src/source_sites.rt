@@ -38,7 +38,7 @@ impl<'a> Texts<'a> {
         })
     }
 
-    /// Returns where the pieces of the source at an index are. The sources of the text come first, in its order.
+    /// Returns the locations of the pieces of the source at an index. The sources of the text come first, in its order.
     pub fn sites(
         &self,
         alloc: Global,

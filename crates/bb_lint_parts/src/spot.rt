@@ -11,7 +11,7 @@ pub struct Spot {
 }
 
 impl Spot {
-    /// Returns where a token begins.
+    /// Returns the start location of a token.
     pub fn of(token: Token<'_>) -> Spot {
         Spot {
             line: token.line,

@@ -19,13 +19,13 @@ use crate::step::step;
 use bb_code::Code;
 use std::alloc::Global;
 
-/// Executes a code from its first place for an entry, at most `limit` steps, and returns the outcome. Changes are noted
-/// on the blackboard. Every op is checked before it is done, so any code can be executed. Declared frames and loops are
-/// not read.
+/// Executes a code from op index 0 for an entry, at most `limit` steps, and returns the outcome. Changes are noted on
+/// the blackboard. Every op is checked before it is done; any code can therefore be executed. Declared frames and loops
+/// are not read.
 ///
 /// `Memory` can happen at any op; the blackboard is then as after the ops before it, but may accept no more changes.
 /// `Full` happens only if no more units can be created. A code without ops that write leaves the blackboard unchanged,
-/// whatever the outcome. A unit that no new note names keeps its class and its values.
+/// regardless of the outcome. A unit that no new note names keeps its class and its values.
 pub fn execute(
     alloc: Global,
     code: &Code,

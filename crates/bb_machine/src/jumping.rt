@@ -1,4 +1,4 @@
-//! The ops that may jump, and those that end an execution. A step calls them.
+//! The ops that may jump, and the ops that end an execution. A step calls them.
 
 ghost use Rattle.std.specs.Prelude.{◌≡◌};
 ghost use Rattle.bb_basis.specs.Results.{Gives};
@@ -13,7 +13,7 @@ use crate::outcome::Answer;
 use crate::value::Value;
 use bb_code::{LocalId, Place};
 
-/// Pops a truth value and jumps to the place if it is false.
+/// Pops a truth value and jumps to the target if it is false.
 #[tactic(auto, unfolding(crate::specs::Jumping::unless))]
 pub(crate) fn unless(machine: &mut Machine<'_>, place: Place) -> Result<(), Halt>
     ensures { map_ok (λ _. machine.new) result ≡ def.unless place machine.old }
@@ -25,7 +25,7 @@ pub(crate) fn unless(machine: &mut Machine<'_>, place: Place) -> Result<(), Halt
     Ok(())
 }
 
-/// Pushes the next live unit of the sequence in a local, or jumps to the place if there is none.
+/// Pushes the next live unit of the sequence in a local, or jumps to the target if no live unit is left.
 #[tactic(auto, unfolding(crate::specs::Jumping::next_unit))]
 pub(crate) fn next_unit(
     machine: &mut Machine<'_>,

@@ -1,7 +1,7 @@
 //! The defensive machine: executes any code, accepted or not, and checks everything that could go wrong.
 //!
-//! `Machine` is the state of an execution: its place, its locals and its stack. `execute` applies every op to it and to
-//! the blackboard, and returns the answer, or a `Stop` with the reason.
+//! `Machine` is the state of an execution: the index of its next op, its locals and its stack. `execute` applies every
+//! op to it and to the blackboard, and returns the answer, or a `Stop` with the reason.
 //!
 //! Its definitions (specs/Step.antt) state what every op does. bb_theorem_machine proves that accepted codes are never
 //! stuck. bb_exec, which executes them in a run, has the same outcome, steps and blackboard unless memory runs out. It

@@ -40,7 +40,7 @@ pub enum Stuck {
     Deleted,
     /// The partner of a link has the wrong class.
     LinkClass,
-    /// The next place is outside the code, or the stack would have a 65th entry.
+    /// The index of the next op is outside the code, or the stack would have a 65th entry.
     Outside,
     /// A slot, a query or a space does not fit.
     Slot,

@@ -177,7 +177,7 @@ fn one_link(board: &Board, unit: UnitId, slot: SlotId) -> Result<(), Halt>
     }
 }
 
-/// Pops a live unit and pushes its partner by a singular link slot, or jumps to the place if it has none.
+/// Pops a live unit and pushes its partner by a singular link slot, or jumps to the target if it has none.
 #[tactic(auto, unfolding(crate::specs::Reading::one))]
 pub(crate) fn one(
     machine: &mut Machine<'_>,
@@ -209,7 +209,7 @@ pub(crate) fn links(machine: &mut Machine<'_>, board: &Board, slot: SlotId) -> R
     push_found(machine, partners)
 }
 
-/// Pops a unit. Pushes it again if it is live, else jumps to the place.
+/// Pops a unit. Pushes it again if it is live, else jumps to the target.
 #[tactic(auto, unfolding(crate::specs::Reading::alive))]
 pub(crate) fn alive(machine: &mut Machine<'_>, board: &Board, place: Place) -> Result<(), Halt>
     ensures { Gives OutOfMemory (λ _. machine.new) result (def.alive board.now place machine.old) }
@@ -223,7 +223,7 @@ pub(crate) fn alive(machine: &mut Machine<'_>, board: &Board, place: Place) -> R
     }
 }
 
-/// Pops a live unit. Pushes it again if its class descends from `class`, else jumps to the place.
+/// Pops a live unit. Pushes it again if its class descends from `class`, else jumps to the target.
 #[tactic(auto, unfolding(crate::specs::Reading::as_class))]
 pub(crate) fn as_class(
     machine: &mut Machine<'_>,

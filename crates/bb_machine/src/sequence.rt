@@ -24,7 +24,7 @@ impl Model for Sequence {
 }
 
 impl Sequence {
-    /// Returns a sequence of which no unit was passed.
+    /// Returns a sequence with no unit passed yet.
     pub fn new(units: Vec<UnitId>) -> Sequence
         ensures { result ≡ whole units.items }
     {

@@ -1,4 +1,5 @@
-//! Texts on the stack. Slots, entries of the stack and notes share a text, so moving it between them copies no bytes.
+//! Texts on the stack. Slots, entries of the stack and notes share a text; moving it between them therefore copies no
+//! bytes.
 
 ghost use Rattle.std.specs.Prelude.{◌≡◌, IfOk};
 

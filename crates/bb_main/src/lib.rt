@@ -4,7 +4,7 @@
 //! - Out: `program` and `serve`, which write a trace, a check, a bundle, a document of units or a refusal, and return
 //!   the exit status.
 //! - Callers rely on: the answer is the one of bb_shell to the sections of the input; an input longer than
-//!   `INPUT_LIMIT` is refused; every native is closed, whatever happens.
+//!   `INPUT_LIMIT` is refused; every native is closed in any case.
 //! - Family: bb_main_options has the command line, bb_main_input reads and cuts the input; `bb` is the program, bb_c
 //!   the library for C.
 //! - Cases: `program`, `units_left`, `outputs`, `sentences`, `advice`, `limits`; tests in bb_main_tests and

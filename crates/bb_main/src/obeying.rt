@@ -1,5 +1,5 @@
-//! A whole command line: its words choose options, by which the input is served, or their text is the answer. The
-//! program (bb) calls `obey` with what the system gives it.
+//! A whole command line: its words choose options for serving the input, or their text is the answer. The program (bb)
+//! calls `obey` with what the system gives it.
 
 ghost use Rattle.std.specs.Prelude.{◌≡◌, ◌==◌, ◌+◌, drop, false, map};
 ghost use Rattle.bb_main_input.specs.Reading.{TakesAtMost};
@@ -15,8 +15,8 @@ use std::alloc::Global;
 use std::convert::AsStr;
 use std::io::Write;
 
-/// Obeys a command line whose first word is the program's name. The other words choose options, by which `program`
-/// serves the input, or they choose none, and their text is written (`answer_words`). Returns the exit status.
+/// Obeys a command line whose first word is the program's name. The other words choose options, and `program` serves
+/// the input with them, or they choose none, and their text is written (`answer_words`). Returns the exit status.
 pub fn obey<S: AsStr, R: In, O: Out, E: Write>(
     alloc: Global,
     words: &[S],

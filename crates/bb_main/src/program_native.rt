@@ -82,7 +82,7 @@ fn idle(trade: Trade) -> ProgramNative
     }
 }
 
-/// Returns the natives of the program, none of which was called yet. `Memory`: memory ran out.
+/// Returns the natives of the program, which were not called yet. `Memory`: memory ran out.
 pub fn program_natives(alloc: Global) -> Result<Vec<ProgramNative>, Memory>
     ensures { IfOk result (λ natives. map ⟦<ProgramNative as NativeSource>⟧.meaning natives.items ≡ program_natives) }
 {

@@ -46,7 +46,7 @@ pub(crate) const WRITE: u8 = 6;
 
 /// Runs the program: `serve` with the options of the command line and the natives `tally` and `reaper`. After the line
 /// of a refusal it writes the reason to `errors`, and after the lines of a check the advice on its sources. Returns the
-/// exit status, whatever happens to `errors`.
+/// exit status, regardless of what happens to `errors`.
 pub fn program<R: In, O: Out, E: Write>(
     alloc: Global,
     options: Options,
@@ -104,7 +104,7 @@ fn say_advice<E: Write>(advice: Option<String>, errors: &mut E)
 /// that are text; `Units` runs it as `Run` does, and writes a document of the units that are left instead of the trace.
 /// If the input is refused, it writes the line that refuses it. Returns the exit status: 0 quiescence, or a check or
 /// bundle written; 2 the input is refused; 3 the limit; 4 full; 5 memory ran out; 6 the output failed. Every native is
-/// closed once, in order, whatever the status.
+/// closed once, in order, regardless of the status.
 pub fn serve<N: NativeSource, R: In, O: Out>(
     alloc: Global,
     mode: Mode,

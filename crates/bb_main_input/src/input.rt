@@ -18,8 +18,8 @@ pub trait In {
     /// Whether the reader has failed.
     ghost has_failed: { Self → Bool };
 
-    /// Reads bytes into the front of the buffer and returns their number, which is 0 only at the end. If it fails, it
-    /// takes no bytes and returns `None`.
+    /// Reads bytes into the start of the buffer and returns their number, which is 0 only at the end. If it fails, it
+    /// removes no bytes and returns `None`.
     fn read(&mut self, buffer: &mut [u8]) -> Option<usize>
         requires room { 0 < length buffer.old }
         requires open { has_failed self.old ≡ false }

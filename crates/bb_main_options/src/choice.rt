@@ -3,7 +3,7 @@
 /// The maximum number of cycles of a run if the words give no limit.
 pub const CYCLE_LIMIT: u32 = 1_000_000;
 
-/// The minimum rating at which a run chooses an activation if the words give no floor.
+/// The minimum rating of the activations that a run chooses if the words give no floor.
 pub const FLOOR: i64 = 0;
 
 /// What is done with an input.
@@ -25,6 +25,6 @@ pub struct Options {
     pub mode: Mode,
     /// The maximum number of cycles of a run.
     pub limit: u32,
-    /// The minimum rating at which a run chooses an activation.
+    /// The minimum rating of the activations that a run chooses.
     pub floor: i64,
 }

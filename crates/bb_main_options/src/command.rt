@@ -10,7 +10,7 @@ use clap::builder::PossibleValue;
 use clap::{Arg, Command, value_parser};
 use std::alloc::{AllocError, Global};
 
-/// The version of the program, and the logic of the kit in which its proofs hold.
+/// The version of the program, and the logic of the kit that its proofs hold in.
 pub const VERSION: &str = "0.9.0 (proved in logic dac8208d650f15bf)";
 
 // The end of the help: the exit statuses.

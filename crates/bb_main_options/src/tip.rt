@@ -5,7 +5,7 @@ use std::alloc::{AllocError, Global};
 use std::convert::AsStr;
 
 /// Returns the text of a refusal of `words`: `text`, which is clap's, with a tip if one helps. Clap's tip for a
-/// negative number, `-- -5`, does not work for this command, so another text replaces clap's.
+/// negative number, `-- -5`, does not work for this command. Another text therefore replaces clap's.
 pub(crate) fn with_tip<S: AsStr>(
     alloc: Global,
     text: String,

@@ -1,4 +1,4 @@
-//! Tests of the program's reports on refused inputs, also if standard error takes only a part or nothing.
+//! Tests of the program's reports on refused inputs, also if standard error accepts only a part or nothing.
 
 use bb_main::program;
 use bb_main_input::{Intake, SectionFault};

@@ -1,9 +1,9 @@
-//! What a line is, by its first word. reading.rt tells lines apart by it.
+//! The kind of a line, by its first word. reading.rt distinguishes lines by it.
 
 ghost use Rattle.std.specs.Prelude.{◌≡◌};
 ghost use Rattle.bb_moves.specs.Keywords.{ask_word_of, keyword_of};
 
-/// What a line is.
+/// The kind of a line.
 #[derive(Clone, Copy)]
 pub(crate) enum Keyword {
     /// `turn`
@@ -79,7 +79,7 @@ fn ask_word_of(word: &str) -> Option<AskWord>
     None
 }
 
-/// Returns what a line is that begins with a word.
+/// Returns the kind of a line that begins with a word.
 #[tactic(auto, unfolding(crate::specs::Keywords::keyword_of))]
 pub(crate) fn keyword_of(word: &str) -> Option<Keyword>
     ensures { result ≡ keyword_of word.now }

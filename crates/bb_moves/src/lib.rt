@@ -4,7 +4,7 @@
 //! - Out: `replay` and, if the host answers for natives, `replay_hosted`: the run after the moves, with its trace
 //!   written. `play` makes moves of a run that is already held. `history` writes a move as text. `moves_of` reads the
 //!   moves of a text, or returns its first `MovesFault`.
-//! - Callers rely on: trace and run are those of the abstract blackboard machine for the same history. A host that
+//! - Callers rely on: trace and run are the same as the abstract blackboard machine's for the same history. A host that
 //!   keeps its moves can therefore restore its run, with its agenda and all numbers. What `history` writes is read as
 //!   the same moves, also if the texts of many moves are put together.
 //! - Cases: `moves`, `moves_full`, `moves_refused`.

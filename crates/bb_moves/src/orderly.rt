@@ -9,11 +9,11 @@ ghost use Rattle.bb_run_held.specs.Moves.{Move};
 ghost use Rattle.bb_moves.specs.MovesText.{moves_of};
 ghost use Rattle.bb_moves.specs.Written.{IsEnded, can_tell, history_text};
 
-/// States what histories are like, for any schema.
+/// States the properties of histories, for any schema.
 ///
-/// - `joined`: if the last line of a history is ended, the moves of another one behind it are read after its own.
-/// - `again`: the texts of moves that the format can tell, one behind the other, are read as these moves.
-/// - `told`: the format can tell each move that is read. So whatever a history has, `history` can write.
+/// - `joined`: if the last line of a history is ended, the moves of another history after it are read after its own.
+/// - `again`: the texts of moves that the format can express, one after the other, are read as these moves.
+/// - `told`: the format can express every move that is read. Therefore `history` can write every move of a history.
 pub fn histories_are_orderly()
     ensures joined { (schema : Schema) (a b : List ℕ) (ms ns : List Move) → IsEnded a →
         moves_of schema a ≡ Ok ms → moves_of schema b ≡ Ok ns → moves_of schema (a ++ b) ≡ Ok (ms ++ ns) }

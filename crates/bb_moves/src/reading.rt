@@ -191,8 +191,8 @@ impl Reading {
     }
 }
 
-/// Reads the moves of a text, or returns the first fault from the top. Labels are those of the schema. `Memory` can
-/// occur at any point.
+/// Reads the moves of a text, or returns the first fault from the top. Labels are the schema's. `Memory` can occur at
+/// any point.
 #[tactic(auto, unfolding(crate::specs::MovesText::moves_of))]
 pub fn moves_of(alloc: Global, schema: &Schema, text: &str) -> Result<Vec<Move>, MovesFault>
     ensures { Gives NoMemory (λ v. map meant v.items) result (moves_of schema.now text.now) }

@@ -57,7 +57,7 @@ fn make<N: NativeSource, O: Out>(
     }
 }
 
-/// Begins the run of a shell and makes its moves in sequence. A host that kept its moves can so restore its run.
+/// Begins the run of a shell and makes its moves in sequence. This restores the run of a host that kept its moves.
 /// `Memory`: memory ran out. `Write`: the output failed. After an error every native is closed, in order, and the
 /// blackboard is dropped.
 pub fn replay<N: NativeSource, O: Out>(

@@ -1,4 +1,4 @@
-//! Which moves the format of histories can tell. writing.rt asks before it writes one.
+//! Which moves the format of histories can express. writing.rt asks before it writes one.
 
 ghost use Rattle.std.specs.Prelude.{◌≡◌, ◌^◌, ◌&&◌, int_le, nat_lt};
 ghost use Rattle.std.specs.List.{list_all};
@@ -14,7 +14,7 @@ use bb_schema::{Schema, UnitId, Value};
 use bb_schema_classes::{LabelId, LabelSetId};
 use bb_shell::Ask;
 
-/// Returns whether the format can tell a move.
+/// Returns whether the format can express a move.
 #[tactic(auto, unfolding(crate::specs::Written::can_tell))]
 pub(crate) fn can_tell(schema: &Schema, each: &Move) -> bool
     ensures { result ≡ can_tell schema.now (meant each.now) }

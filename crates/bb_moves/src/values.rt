@@ -1,4 +1,4 @@
-//! Reads the value of a `set`, in the form in which a trace writes values, but a label follows its set.
+//! Reads the value of a `set`, in the form that values have in a trace, except that a label follows its set.
 
 ghost use Rattle.std.specs.Prelude.{◌≡◌, map, option_map};
 ghost use Rattle.serde_json.specs.View.{items_view, view};

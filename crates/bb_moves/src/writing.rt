@@ -1,4 +1,4 @@
-//! Writes moves in the format in which `moves_of` reads them. Hosts that keep a history call `history`.
+//! Writes moves in the format that `moves_of` reads. Hosts that keep a history call `history`.
 
 ghost use Rattle.std.specs.Prelude.{◌≡◌, ◌++◌, ◌∷◌, [], IfOk, IfSome, None, Ok, OnOk, Some, if◌then◌else◌};
 ghost use Rattle.std.specs.Prelude.{codes, option_map, string_bytes};
@@ -19,10 +19,10 @@ use serde_json::Value as Json;
 use std::alloc::Global;
 use std::fmt::Write;
 
-/// Returns the text of a move, whole lines in the format of histories, or `None` if the format can't tell it: a class,
-/// a slot or a space without a name, a label that the schema doesn't have, or an interval that ends before it begins.
-/// The schema is the run's. `moves_of` reads the text as this one move, so a log of texts, one behind the other, is read
-/// as the moves that were made. Fails only if memory runs out.
+/// Returns the text of a move, whole lines in the format of histories, or `None` if the format can't express it: a
+/// class, a slot or a space without a name, a label that the schema doesn't have, or an interval that ends before it
+/// begins. The schema is the run's. `moves_of` reads the text as this one move. Therefore a log of texts, one after the
+/// other, is read as the moves that were made. Fails only if memory runs out.
 pub fn history(alloc: Global, schema: &Schema, each: &Move) -> Result<Option<String>, Memory>
     ensures text { IfOk result (λ t. option_map string_bytes t ≡ (if can_tell schema.now (meant each.now)
         then Some (move_text schema.now (meant each.now)) else None)) }

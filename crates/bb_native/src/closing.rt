@@ -1,4 +1,5 @@
-//! The closing of a native: what it says when it is closed. `Roster::close_all` returns a list of these.
+//! The closing of a native: its name and the number that it returns when it is closed. `Roster::close_all` returns a
+//! list of these.
 
 use bb_basis::Text;
 

@@ -1,4 +1,4 @@
-//! The natives that a host hands in. The run looks up natives here by name, makes them act, and closes them.
+//! The natives that a host passes to a run. The run looks up natives here by name, makes them act, and closes them.
 
 ghost use Rattle.std.specs.Prelude.{◌≡◌, ◌<◌, pos, true, length, map, position, IfSome, IfOk, OnOk, OnErr};
 ghost use Rattle.std.specs.Str.{bytes_eq};
@@ -16,9 +16,9 @@ use std::alloc::Global;
 /// The names of a roster's natives and the numbers that they said when they were closed, in the order of the roster.
 pub type Closed = Items<Closing>;
 
-/// Natives in the order in which they were handed in, all open. Contracts see the list of their meanings,
-/// `map N.meaning roster.natives.items`. A roster can't be dropped, and only `close_all` consumes it. So no native is
-/// dropped while it is open, and none is called after it is closed.
+/// Natives in the order they were passed in, all open. Contracts see the list of their meanings,
+/// `map N.meaning roster.natives.items`. A roster can't be dropped, and only `close_all` consumes it. Therefore no
+/// native is dropped while it is open, and none is called after it is closed.
 pub struct Roster<N: NativeSource> {
     natives: Vec<N>,
     closings: Vec<Closing>,
@@ -49,7 +49,7 @@ impl<N: NativeSource> Roster<N> {
         place_of(&self.closings, name)
     }
 
-    /// Returns the names of the natives, each with number 0, in the order in which they were handed in.
+    /// Returns the names of the natives, each with number 0, in the order they were passed in.
     pub fn handed_in(&self) -> &[Closing]
         ensures { result.now ≡ map unclosed (map N.meaning self.now.natives.items) }
     {

@@ -66,7 +66,7 @@ impl<'a> View<'a> {
         self.board.units()
     }
 
-    /// Returns whether a number is that of a live unit.
+    /// Returns whether a number belongs to a live unit.
     pub fn live(&self, unit: UnitId) -> bool
         ensures { result ≡ is_live self.now.world.units unit }
     {
@@ -97,7 +97,7 @@ impl<'a> View<'a> {
         self.board.get(unit, slot)
     }
 
-    /// Returns whether a number is that of a live unit whose class has the ordinary slot.
+    /// Returns whether a number belongs to a live unit whose class has the ordinary slot.
     pub fn has(&self, unit: UnitId, slot: SlotId) -> bool
         ensures value { IsTrue result ↔ IsSome (value_of self.now.world.units unit slot) }
         ensures listed { result ≡ has_slot self.now.world.units unit slot }

@@ -124,8 +124,8 @@ impl Pattern {
 
     /// Checks that the pattern fits a query for a class in a space, with operands of these kinds. The error is the
     /// first that applies: `Space`, the space or the class does not exist; `Limit`, there are more than 64 nodes or 16
-    /// operands; then node by node, in order: `Dimension`, the space has no such dimension of this sort; `Operand`,
-    /// there is no such operand of this kind. Goes no deeper than the limit, regardless of the depth of the pattern.
+    /// operands; then node by node, in order: `Dimension`, the space has no such dimension of this sort; `Operand`, the
+    /// operand is missing or has another kind. Goes no deeper than the limit, regardless of the depth of the pattern.
     #[tactic(auto, unfolding(crate::specs::Fits::pattern_fits))]
     pub fn fits(
         &self,

@@ -143,8 +143,8 @@ fn walked(alloc: Global, search: &Search) -> Result<Vec<UnitId>, Memory>
 }
 
 /// Finds the units in the query's space, of its class or one below it, that satisfy its pattern, in ascending order
-/// (GBBopen Reference Manual, find-instances). The query must fit the schema, members must be live and of classes that
-/// their space admits, and the spaces must have been given their present values. A test whose operand is of another
+/// (GBBopen Reference Manual, find-instances). The query must fit the schema, members must be live and have classes
+/// that their space admits, and the spaces must have been given their present values. A test whose operand has another
 /// sort holds of no unit.
 pub fn find(
     alloc: Global,

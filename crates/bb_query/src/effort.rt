@@ -23,7 +23,7 @@ impl Effort {
     }
 
     /// Returns the maximum number of candidates for a test: up to `most` if they are found in ascending order, as for
-    /// one low end or one label. Others must be sorted, so fewer are allowed.
+    /// one low end or one label. Others must be sorted; therefore fewer are allowed.
     pub(crate) fn most_of(&self, test: &Leaf) -> usize {
         let most = if test.has_one_key() {
             self.most
@@ -48,7 +48,7 @@ impl Effort {
         self.left = self.left.saturating_sub(steps);
     }
 
-    /// Starts the next round, in which a test may have more candidates. Returns `false` if there is none.
+    /// Starts the next round, which allows more candidates for a test. Returns `false` if the last round is over.
     pub(crate) fn grow(&mut self) -> bool {
         if self.most >= self.left {
             return false;

@@ -1,5 +1,5 @@
 //! The members of a space that may satisfy a pattern, without a scan of all members. The answer of a query begins here.
-//! The numbers by which it chooses, with their reasons, are in `index/costs.rt` of bb_space.
+//! The numbers that decide its choices, with their reasons, are in `index/costs.rt` of bb_space.
 
 ghost use Rattle.std.specs.Prelude.{IfOk, IfSome};
 ghost use Rattle.bb_pattern.specs.Holds.{holds, holds_each, holds_some};

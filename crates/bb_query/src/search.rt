@@ -1,12 +1,12 @@
-//! A query with everything that answers it. `find` of `answer.rt` makes a search, and `near.rt` finds candidates with
-//! it.
+//! A query with everything needed to find its answer. `find` of `answer.rt` makes a search, and `near.rt` finds
+//! candidates with it.
 
 use bb_pattern::{DimValue, Query};
 use bb_schema::Schema;
 use bb_space::Spaces;
 use bb_units::Units;
 
-/// A query with its operands, and the blackboard that answers it.
+/// A query with its operands, and the blackboard that it searches.
 #[derive(Clone, Copy)]
 pub(crate) struct Search<'a> {
     pub(crate) schema: &'a Schema,

@@ -1,4 +1,4 @@
-//! The values of a unit on the dimensions of a space. The board gives them to the spaces, where queries read them.
+//! The values of a unit on the dimensions of a space. The board gives them to the spaces, and queries read them there.
 
 ghost use Rattle.std.specs.Prelude.{◌≡◌, ◌<◌, IfOk, IsTrue, length, map, option_and_then};
 ghost use Rattle.bb_query.specs.PresentValues.{values_on, present_values};

@@ -84,7 +84,7 @@ impl InputFault {
         }
     }
 
-    /// Returns the place of the fault in the text of sources, if it has one there.
+    /// Returns the location of the fault in the text of sources, if it has one there.
     pub fn place(&self) -> Option<Place>
         ensures { result ≡ source_place self.now }
     {

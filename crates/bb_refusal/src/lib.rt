@@ -3,9 +3,9 @@
 //!
 //! - In: the faults of all crates below.
 //! - Out: `InputFault`, its numbers and its sentence.
-//! - Callers rely on: every refusal but out of memory has a line of numbers, which names the step, the place and the
+//! - Callers rely on: every refusal but out of memory has a line of numbers, which names the step, the location and the
 //!   fault (docs/users/REFUSALS.md).
-//! - Family: bb_diag shows the text at the place of a fault, in the pieces of bb_diag_text.
+//! - Family: bb_diag shows the text at the location of a fault, in the pieces of bb_diag_text.
 //! - Cases: `refusals`, `sentences`; tests in bb_shell_tests.
 #![tactic(auto)]
 

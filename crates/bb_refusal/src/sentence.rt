@@ -1,5 +1,5 @@
-//! Why an input is refused, as a sentence for people: where the fault is, and what is wrong there. Reports (bb_diag)
-//! begin with this sentence.
+//! Why an input is refused, as a sentence for people: the location of the fault, and the fault itself. Reports
+//! (bb_diag) begin with this sentence.
 
 use crate::input_fault::InputFault;
 use bb_board::{UnitsFault, UnitsFlaw};

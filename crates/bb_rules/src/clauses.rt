@@ -1,5 +1,5 @@
-//! Lists of clauses, with an index by the kind of an event. The triggers of a source are `Clauses`, and so are the
-//! clauses of a reaction.
+//! Lists of clauses, with an index by the kind of an event. The triggers of a source and the clauses of a reaction are
+//! `Clauses`.
 
 ghost use Rattle.std.specs.Prelude.{◌≡◌, ◌∷◌, ◌++◌, [], IfOk};
 ghost use Rattle.std.specs.List.{list_any};

@@ -38,7 +38,7 @@ pub(crate) fn acting(act: &Act) -> Option<&Checked>
 }
 
 impl Source {
-    /// Returns the codes of require, obviate, retrigger, revalidate and do, those that the source has.
+    /// Returns the codes of require, obviate, retrigger, revalidate and do, each if the source has it.
     pub fn codes(&self) -> [Option<&Checked>; 5]
         ensures { map (option_map (λ c. c.now)) result ≡ codes_of self.now }
     {

@@ -1,4 +1,4 @@
-//! Faults of sources, with their places. Refusal lines have their numbers.
+//! Faults of sources, with their positions. Refusal lines have their numbers.
 
 ghost use Rattle.std.specs.Prelude.{◌≡◌};
 ghost use Rattle.bb_basis.specs.Results.{map_err};
@@ -12,10 +12,10 @@ use thiserror::Error;
 /// Why a source does not fit a schema, or the sources before it.
 #[derive(Clone, Copy, Debug, PartialEq, Eq, Error)]
 pub enum RuleFault {
-    /// The class of the clause at this place has no slot of that name and sort.
+    /// The class of the clause at this position has no slot of that name and sort.
     #[error("a clause names a slot that its class has not")]
     Slot { place: ClausePlace },
-    /// No space has the name in the clause at this place.
+    /// No space has the name in the clause at this position.
     #[error("a clause names a space that is not there")]
     Space { place: ClausePlace },
     /// A part was checked as another part, or for other classes.
@@ -24,17 +24,17 @@ pub enum RuleFault {
     /// Memory ran out.
     #[error("out of memory")]
     Memory,
-    /// No class has the name at this place, or the class of the clause there does not descend from that of its source
-    /// or reaction.
+    /// No class has the name at this position, or the class of the clause there does not descend from the class of its
+    /// source or reaction.
     #[error("a class that is unknown or outside that of the source")]
     Class { place: ClassPlace },
-    /// An earlier source has the name of the source at this place, from 0.
+    /// An earlier source has the name of the source at this index, from 0.
     #[error("source {place} has the name of an earlier one")]
     Twice { place: u64 },
-    /// 256 sources come before the one at this place, from 0.
+    /// 256 sources come before the source at this index, from 0.
     #[error("source {place} is one too many")]
     Limit { place: u64 },
-    /// No native has the name of the source at this place, from 0.
+    /// No native has the name of the source at this index, from 0.
     #[error("there is no native for source {place}")]
     Native { place: u64 },
 }
@@ -73,19 +73,19 @@ impl<T: Drop> From<AllocFailed<T>> for RuleFault {
     }
 }
 
-/// What is wrong with a clause, without its place.
+/// What is wrong with a clause, without its position.
 #[derive(Clone, Copy, Debug, PartialEq, Eq)]
 pub(crate) enum ClauseFlaw {
     /// The class of the clause has no slot of that name and sort.
     Slot,
     /// No space has the name.
     Space,
-    /// No class has the name, or the class does not descend from that of the source or reaction.
+    /// No class has the name, or the class does not descend from the class of the source or reaction.
     Class,
 }
 
 impl ClauseFlaw {
-    /// Returns the fault of the clause at a place that has this flaw.
+    /// Returns the fault of the clause at a position that has this flaw.
     pub(crate) fn at(self, place: ClausePlace) -> RuleFault
         ensures { result ≡ at_clause place.list place.index self }
     {
@@ -99,7 +99,7 @@ impl ClauseFlaw {
     }
 }
 
-/// Turns the flaw of the clause at a place into the fault there.
+/// Turns the flaw of the clause at a position into the fault there.
 pub(crate) fn placed<T>(answer: Result<T, ClauseFlaw>, place: ClausePlace) -> Result<T, RuleFault>
     ensures { result ≡ map_err (at_clause place.list place.index) answer }
 {

@@ -1,4 +1,5 @@
-//! What the names in a draft stand for: classes, and the events that a source responds to. `Source::new` looks them up.
+//! The meanings of the names in a draft: classes, and the events that a source responds to. `Source::new` looks them
+//! up.
 
 ghost use Rattle.bb_basis.specs.Results.{Gives};
 ghost use Rattle.bb_rules.specs.proving.Steps.{found, found_with};
@@ -13,10 +14,10 @@ use bb_exec_lower::Lowered;
 use bb_schema::Schema;
 use std::alloc::Global;
 
-/// What the names in a draft stand for.
+/// The meanings of the names in a draft.
 #[derive(Drop)]
 pub(crate) struct Found {
-    /// The class of the source, and those of its reactions.
+    /// The class of the source, and the classes of its reactions.
     pub classes: Classes,
     /// The events that trigger the source.
     pub triggers: Clauses,

@@ -12,8 +12,8 @@ use bb_basis::IdSet;
 use bb_board::ChangeKind;
 use std::alloc::{AllocError, Global};
 
-/// A set of numbers for each kind of change, in the order in which they were added. The set of a kind that has a slot
-/// or space is found in an ordered map.
+/// A set of numbers for each kind of change, in order of addition. The set of a kind that has a slot or space is found
+/// in an ordered map.
 pub struct KindIndex {
     created: IdSet,
     deleted: IdSet,

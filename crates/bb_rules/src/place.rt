@@ -1,4 +1,4 @@
-//! Places of faults in a source, for `RuleFault`.
+//! Positions of faults in a source, for `RuleFault`.
 
 /// A list of clauses of a source.
 #[derive(Clone, Copy, Debug, PartialEq, Eq)]

@@ -1,5 +1,5 @@
-//! The codes that a source asks: those of parts other than `do`. `Source::new` makes them of accepted codes, and the
-//! run (bb_run) asks them.
+//! The codes that a source asks: the codes of parts other than `do`. `Source::new` makes them of accepted codes, and
+//! the run (bb_run) asks them.
 
 ghost use Rattle.std.specs.Prelude.{◌≡◌, Err};
 ghost use Rattle.bb_code.specs.declared.flaw.Flaw.TheVariants.{Effect};
@@ -57,7 +57,7 @@ impl Question {
     }
 
     /// Returns whether its first ops compare the activation's unit with the event's, and its answer is no if they
-    /// differ. If so, an event need ask it only about the activations for the event's own unit.
+    /// differ. If it returns true, an event need ask it only about the activations for the event's own unit.
     pub fn asks_own(&self) -> bool
         ensures { result ≡ asks_own self.now.code }
     {

@@ -17,7 +17,7 @@ use bb_schema::{ClassId, Schema, SlotId, SpaceId};
 use bb_verify::Part;
 use std::alloc::Global;
 
-/// The class of a source, and those of its reactions, if it has them.
+/// The class of a source, and the classes of its reactions, if it has them.
 #[derive(Clone, Copy, Debug, PartialEq, Eq)]
 pub struct Classes {
     /// The class of the units that it works on.
@@ -29,7 +29,7 @@ pub struct Classes {
 }
 
 impl Classes {
-    /// Looks up the classes that a draft names, its own first. `Class`: a class is unknown; the fault has its place.
+    /// Looks up the classes that a draft names, its own first. `Class`: a class is unknown; the fault has its position.
     #[tactic(auto, unfolding(crate::specs::Source::classes_of))]
     pub fn find<C>(schema: &Schema, draft: &SourceDraft<C>) -> Result<Classes, RuleFault>
         ensures { result ≡ classes_of schema.now draft.now }

@@ -138,10 +138,10 @@ impl Model for Source {
 }
 
 impl Source {
-    /// Makes a source of its draft. The fault is the first of these: `Class` if its class, or that of a reaction, is
-    /// unknown; `Part` if a code was accepted for another part or other classes; and, clause by clause, `Class` if the
-    /// class is unknown or does not descend from that of the source, or of the reaction, `Slot`, `Space`. The fault has
-    /// its place: which of the three classes, or which clause of which list.
+    /// Makes a source of its draft. The fault is the first of these: `Class` if its class, or the class of a reaction,
+    /// is unknown; `Part` if a code was accepted for another part or other classes; and, clause by clause, `Class` if
+    /// the class is unknown or does not descend from the class of the source, or of the reaction, `Slot`, `Space`. The
+    /// fault has its position: which of the three classes, or which clause of which list.
     pub fn new(
         alloc: Global,
         schema: &Schema,

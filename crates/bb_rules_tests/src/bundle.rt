@@ -1,4 +1,4 @@
-//! Tests of bundles: what is read from one and written, with enough memory, and the numbers of faults.
+//! Tests of bundles: their contents as read and as written, with enough memory, and the numbers of faults.
 
 use bb_bundle::{ActDraft, BundleFault, ChangeText, ClauseText, bundle, unbundle};
 use bb_code::{CodeFault, Op};

@@ -1,5 +1,5 @@
-//! Applies asks to the blackboard, one by one: those of a native, which a cycle calls (execution.rt) or whose host
-//! answers for it, and those from outside (cycles.rt).
+//! Applies asks to the blackboard, one by one: the asks of a native, which a cycle calls (execution.rt) or whose host
+//! answers for it, and the asks from outside (cycles.rt).
 
 ghost use Rattle.std.specs.Prelude.{◌≡◌, ◌<◌, IfOk, Some, length, map};
 ghost use Rattle.bb_trace.specs.Applied.{applied};
@@ -60,7 +60,7 @@ fn apply_each<N: NativeSource>(
     Ok(None)
 }
 
-/// Calls the native at a place for the unit of an activation, applies its asks, and appends their notes. Returns the
+/// Calls the native at an index for the unit of an activation, applies its asks, and appends their notes. Returns the
 /// end of the run if it ends there.
 pub(crate) fn call<N: NativeSource>(
     place: usize,

@@ -28,7 +28,8 @@ pub(crate) enum Decision {
     Over(End),
 }
 
-/// Chooses an activation, if one can be chosen. The agenda rates by the foci it was told, which are the blackboard's.
+/// Chooses an activation, if one can be chosen. The agenda rates by the foci reported to it, which are the
+/// blackboard's.
 pub fn choose<N: NativeSource>(plan: &Plan, state: &State<N>) -> Option<Activation>
     requires knows { Knows plan.now (seen N.meaning state.now) }
     ensures { result ≡ choice plan.now (seen N.meaning state.now) }
@@ -143,8 +144,8 @@ impl<O: Out> Runner<'_, O> {
         }
     }
 
-    /// Makes cycles up to the one with number `last`, `made` of which were made before; counts them in `made`. Returns
-    /// the end of the run.
+    /// Makes cycles up to the cycle with number `last`, after `made` earlier cycles; counts them in `made`. Returns the
+    /// end of the run.
     pub fn make_cycles<N: NativeSource>(
         &mut self,
         plan: &Plan,

@@ -1,5 +1,5 @@
-//! How a run ends and is written: its last segment, or the rest of the page if it is cut short. whole.rt calls it, and
-//! so does bb_run_held.
+//! How a run ends and is written: its last segment, or the rest of the page if it is cut short. whole.rt and
+//! bb_run_held call it.
 
 ghost use Rattle.std.specs.Prelude.{◌≡◌, [], ◌∷◌, IfOk, Ok, false, map};
 ghost use Rattle.bb_trace.specs.Page.{halted_by_write, stopped_by_write};

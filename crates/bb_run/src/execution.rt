@@ -101,7 +101,7 @@ pub(crate) fn take_choice<N: NativeSource>(
 }
 
 /// Executes the act of a source for an activation and appends its notes. Returns the end of the run if the execution
-/// came to no answer, or if the act is a native that was not handed in.
+/// ended without an answer, or if the act is a native that was not passed in.
 pub(crate) fn execute<N: NativeSource>(
     source: &Source,
     activation: Activation,

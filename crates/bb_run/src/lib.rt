@@ -3,7 +3,7 @@
 //!
 //! - In: a `Plan`, a `Board` and a roster of natives (`Start`), a limit of cycles and an output.
 //! - Out: `run_to_end`, which writes the trace to the output, closes every native once, and returns how the run ended.
-//! - Callers rely on: the trace is the abstract blackboard machine's (`specs/Run`), whatever the sources do.
+//! - Callers rely on: the trace is the abstract blackboard machine's (`specs/Run`), regardless of what the sources do.
 //! - Cases: `runs`, `triggers`, `foci`, `floors`, `limits_of_runs`, `model-runs`; tests in bb_shell_tests.
 #![tactic(auto)]
 

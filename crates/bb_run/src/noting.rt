@@ -23,8 +23,8 @@ fn add_board_notes(notes: &mut Vec<Note>, noted: Vec<Noted>) -> Result<(), Alloc
     Ok(())
 }
 
-/// Takes the blackboard's notes: tells the agenda about the units that they name, and appends them to the notes, and
-/// then `last` if there is one.
+/// Takes the blackboard's notes: reports the units that they name to the agenda, and appends the blackboard's notes to
+/// `notes`, and then `last` if there is one.
 pub(crate) fn take_noted<N: NativeSource>(
     state: &mut State<N>,
     last: Option<Note>,

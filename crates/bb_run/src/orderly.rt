@@ -1,4 +1,4 @@
-//! What holds of every run. No code calls it; it states what the runs that `run_texts` writes are like.
+//! The properties of every run. No code calls this; it states the properties of the runs that `run_texts` writes.
 
 ghost use Rattle.std.specs.Prelude.{◌≡◌, ℕ, ◌+◌, ◌-◌, ℤ, List, ◌∷◌, ◌++◌};
 ghost use Rattle.bb_agenda.specs.declared.focusing.activation.Activation.{Activation};
@@ -19,11 +19,11 @@ ghost use Rattle.bb_run.specs.Responds.{Responds};
 ghost use Rattle.bb_run.specs.Reads.{AsksByReading, ReadsOnly};
 ghost use Rattle.bb_run.specs.Unstuck.{BeginsEach, FitsPlan, IsReady, IsUnstuck, IsWellMade};
 
-/// States what every run is like, for any plan, first state of the blackboard, natives and limit.
+/// States the properties of every run, for any plan, first state of the blackboard, natives and limit.
 ///
 /// - `phases`: a run begins with what its blackboard had noted. After that, a note of the blackboard comes between a
 ///   choice and the end of its cycle, or is quiescence. Quiescence comes only while no cycle is open, not twice without
-///   a choice in between, and in a state in which no activation that is pending by the notes can be chosen. A cycle
+///   a choice in between, and only if no activation that is pending by the notes can be chosen in its state. A cycle
 ///   ends before the next begins. A run that finishes by quiescence has emitted it and made no choice after it.
 ///   Activations are numbered from 1.
 /// - `choices`: up to the choice of a cycle, a run is the run whose limit is one less than the cycle's number, and the
@@ -34,32 +34,33 @@ ghost use Rattle.bb_run.specs.Unstuck.{BeginsEach, FitsPlan, IsReady, IsUnstuck,
 ///   blackboard and with the natives of that state, and the finish if the run ends there. If the source's revalidation
 ///   says no, it is the note that the activation is invalid.
 /// - `acts`: an executed code emits what the blackboard noted during it, and then its steps, the units that it found
-///   and its budget; if it comes to no answer, the run is over. For a called native, every ask is reported, from number
-///   1: what the blackboard noted, or that the ask was refused. Each ask is applied to the blackboard that the earlier
-///   ones left. If there is no such native, the run is over with it due.
+///   and its budget; if it ends without an answer, the run is over. For a called native, every ask is reported, from
+///   number 1: what the blackboard noted, or that the ask was refused. Each ask is applied to the blackboard that the
+///   earlier ones left. If the native is missing, the run is over with it due.
 /// - `responds`: right after events are emitted, the sources respond to them: to what the blackboard had noted, to what
 ///   is emitted upon a choice, and to quiescence. Event by event and source by source, they emit what their codes
-///   answer on the blackboard as it is then. First, each pending activation of the source is obviated if the code of
-///   `obviate` says yes about it. Then each one that is still pending gets the base that the code of `retrigger` rates.
-///   Then, if the event triggers the source, the source gets the next activation, with the base that its requirement
-///   rates, or its rate if it requires nothing, or it declines. If a code comes to no answer, or the agenda is full,
-///   the finish comes; else, after all responses, comes quiescence, a choice or the finish. The blackboard and the
-///   natives of a choice are those that the execution before it left; for the first choice, they are those handed in.
-///   This holds for plans whose codes write nothing if a source asks them; by `reads`, it holds for every plan.
-/// - `reads`: responses to an event change only the agenda, and what is asked about a choice changes nothing.
+///   answer on the blackboard in its state at that time. First, every pending activation of the source is obviated if
+///   the code of `obviate` says yes about it. Then each of these still pending gets the base that the code of
+///   `retrigger` rates. Then, if the event triggers the source, the source gets the next activation, with the base that
+///   its requirement rates, or its rate if it requires nothing, or it declines. If a code ends without an answer, or
+///   the agenda is full, the finish comes; else, after all responses, comes quiescence, a choice or the finish. A
+///   choice has the blackboard and the natives that the execution before it left; the first choice has the blackboard
+///   and the natives that were passed in. This holds for plans whose codes write nothing if a source asks them; by
+///   `reads`, it holds for every plan.
+/// - `reads`: responses to an event change only the agenda, and the codes asked about a choice change nothing.
 /// - `ends`: a run has an end, which it emits once. After it come only the closings of its natives: each is closed
 ///   once, in order, as the run left it, the same except for what it holds. The run is full only if, in its last state,
 ///   65,536 activations are pending, or the last number was given, or no unit can be created and either its last
 ///   execution was stopped for that or its last native asked for one. It is stuck only if its last execution was. A
-///   native is due only if the source of the chosen activation has a native for its act, and there is none of its name.
-///   A run makes no more cycles than its limit. If it ends by its limit, it made that many, and something can still be
-///   chosen; if it ends in quiescence, nothing can be.
+///   native is due only if the source of the chosen activation has a native for its act, and no native of its name
+///   exists. A run makes no more cycles than its limit. If it ends by its limit, it made that many, and something can
+///   still be chosen; if it ends in quiescence, nothing can be.
 /// - `longer`: a longer limit changes nothing before the finish of a run that ends by its limit, and nothing at all of
 ///   any other run.
 /// - `leaves`: in the last state of a run, and therefore at each choice, no more than 65,536 activations are pending,
-///   and the agenda was told the foci that the blackboard then has. If the sources were made under the blackboard's
+///   and the agenda was given the foci that the blackboard then has. If the sources were made under the blackboard's
 ///   schema, from codes that the verifier accepted under it, the state is ready: the blackboard fits, and the unit of
-///   every pending activation was created with its source's class, or is that of quiescence.
+///   every pending activation was created with its source's class, or is the unit of quiescence.
 /// - `begins`: in a ready state, every code begins with units that fit its part: the act and the revalidation of a
 ///   pending activation, and what sources ask about an event of the blackboard. Both leave a ready state, and the
 ///   events of an act belong to the blackboard that it leaves.

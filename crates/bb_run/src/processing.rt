@@ -127,7 +127,7 @@ fn source_responds<N: NativeSource>(
     trigger(schema, placed, event, state, notes)
 }
 
-/// Returns the source at a place, if there is one.
+/// Returns the source at an index, if there is one.
 pub(crate) fn source_at(sources: &[Source], place: u16) -> Option<&Source>
     ensures { option_map (λ s. s.now) result ≡ slice_get sources.now place }
 {

@@ -134,7 +134,7 @@ fn retrigger_one<N: NativeSource>(
     }
 }
 
-/// Obviates the pending activations of the source at a place that an event makes needless.
+/// Obviates the pending activations of the source at an index that an event makes needless.
 pub(crate) fn obviate_all<N: NativeSource>(
     reaction: &Reaction,
     event: Event,
@@ -157,7 +157,7 @@ pub(crate) fn obviate_all<N: NativeSource>(
     Ok(None)
 }
 
-/// Gives another base to the pending activations of the source at a place that an event rates again.
+/// Gives another base to the pending activations of the source at an index that an event rates again.
 pub(crate) fn retrigger_all<N: NativeSource>(
     reaction: &Reaction,
     event: Event,

@@ -7,7 +7,7 @@ ghost use Rattle.bb_trace.specs.Roster.{closings_of};
 use bb_agenda::Agenda;
 use bb_trace::{Board, Closed, NativeSource, Roster};
 
-/// What a run begins with: the blackboard in its first state, and the natives handed in.
+/// What a run begins with: the blackboard in its first state, and the natives passed in.
 pub struct Start<N: NativeSource> {
     pub board: Board,
     pub roster: Roster<N>,

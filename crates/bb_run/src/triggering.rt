@@ -16,7 +16,7 @@ use bb_rules::Question;
 use bb_trace::{End, Event, NativeSource, Note};
 use std::alloc::AllocError;
 
-/// Gives the source at a place an activation for an event, with this base. The run is over if the agenda is full.
+/// Gives the source at an index an activation for an event, with this base. The run is over if the agenda is full.
 pub(crate) fn activate<N: NativeSource>(
     event: Event,
     place: u16,
@@ -43,7 +43,7 @@ pub(crate) fn activate<N: NativeSource>(
     }
 }
 
-/// Asks the requirement of the source at a place whether an event gives it an activation. Any answer but a rating
+/// Asks the requirement of the source at an index whether an event gives it an activation. Any answer but a rating
 /// declines.
 pub(crate) fn require<N: NativeSource>(
     code: &Question,

@@ -79,7 +79,7 @@ impl<O: Out> Runner<'_, O> {
         (self.end_by(plan, made, closed), board)
     }
 
-    /// Ends a run after `made` cycles. If it has no end yet, it first comes to rest, or to its limit. Every native is
+    /// Ends a run after `made` cycles. If it has no end yet, it first reaches quiescence, or its limit. Every native is
     /// closed, also if the run is cut short; returns the end and the blackboard that is left.
     pub fn finish<N: NativeSource>(
         &mut self,
@@ -169,12 +169,12 @@ pub fn first_state<N: NativeSource>(
     }
 }
 
-/// Runs a blackboard from its first state with the natives handed in, for at most `limit` cycles, and writes the trace.
+/// Runs a blackboard from its first state with the natives passed in, for at most `limit` cycles, and writes the trace.
 /// Returns how the run ended and the blackboard that it leaves. At the end every native is closed once, in order, also
-/// if the run was cut short. `Memory`: memory ran out. `Write`: the output failed. The blackboard has the plan's schema,
-/// and the sources were made under it, from codes that the verifier accepted under it; each source has a code for its
-/// act, or there is a native of its name. So no execution can get stuck, and no native is due at the end; the machine's
-/// run is not stuck and keeps its budgets, also where it is cut short here.
+/// if the run was cut short. `Memory`: memory ran out. `Write`: the output failed. The blackboard has the plan's
+/// schema, and the sources were made under it, from codes that the verifier accepted under it; each source has a code
+/// for its act, or there is a native of its name. Therefore no execution can get stuck, and no native is due at the
+/// end; the machine's run is not stuck and keeps its budgets, also if it is cut short here.
 pub fn run_to_end<N: NativeSource, O: Out>(
     alloc: Global,
     plan: &Plan,

@@ -4,7 +4,7 @@
 //! - In: a shell (bb_shell), moves in sequence, and an output for each.
 //! - Out: the state of the run after each move, with its trace written; at the end, the blackboard.
 //! - Callers rely on: each move emits what the abstract blackboard machine emits there (`specs/Moves`), and the trace
-//!   does not show where `advance` returned to the host.
+//!   does not show the points at which `advance` returned to the host.
 #![tactic(auto)]
 
 mod beginning;

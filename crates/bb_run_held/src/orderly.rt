@@ -13,16 +13,16 @@ ghost use Rattle.bb_run_held.specs.Moves.{post, post_segment, takes_posts};
 ghost use Rattle.bb_run_held.specs.Outside.{AsksInside, ComesToSame, with_inside};
 ghost use Rattle.bb_run_held.specs.declared.pause.Pause.TheVariants.{Due, Going};
 
-/// States what the moves of any held run are like, for any plan, blackboard and natives.
+/// States the properties of the moves of any held run, for any plan, blackboard and natives.
 ///
-/// - `apart`: where `advance` returns does not show. An `advance` of m cycles and then one of n emit what one of m + n
-///   cycles emits, and leave the run as it does.
+/// - `apart`: the point at which `advance` returns does not show. An `advance` of m cycles and then one of n emit what
+///   one of m + n cycles emits, and leave the run as it does.
 /// - `turns`: one `advance` emits what some number of turns emit, and leaves the run as they do.
-/// - `alone`: a run is a start, one `advance` of as many cycles as its limit, and a finish.
+/// - `alone`: a run is a start, one `advance` with the run's limit as its number of cycles, and a finish.
 /// - `posts`: a post is one segment, the first of its move: each ask, in order, and its effect on the blackboard that
 ///   the move found.
-/// - `outside`: a turn after which a native is due, and then the answer for it, emit the notes of the turn in which a
-///   native inside asks the same, and leave the run as that turn does, except for its natives.
+/// - `outside`: a turn that ends with a native due, and then the answer for it, emit the notes of the turn with a
+///   native inside that asks the same, and leave the run as that turn does, except for its natives.
 pub fn moves_are_orderly()
     ensures apart { (plan : Plan) (t : Standing) (m n : ℕ) →
         played plan (advance m ∷ advance n ∷ []) t ≡ moved plan (advance (m + n)) t }

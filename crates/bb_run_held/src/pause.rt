@@ -12,14 +12,14 @@ pub enum Pause {
     Going,
     /// Quiescence was emitted and changed nothing: only asks from outside can continue the run.
     Resting,
-    /// A native is due: the source of this activation acts by one that was not handed in. The host answers for it.
+    /// A native is due: the source of this activation acts by one that was not passed in. The host answers for it.
     Due(Activation),
     /// The run is over: its blackboard or its agenda is full.
     Over(End),
 }
 
 impl Pause {
-    /// Returns whether a native is due, in which case the run can't be finished.
+    /// Returns whether a native is due. If one is, the run can't be finished.
     pub fn is_due(&self) -> bool
         ensures { result ≡ is_due self.now }
     {
@@ -31,7 +31,7 @@ impl Pause {
     }
 }
 
-/// Returns the state of a run after a part that ended in this way, if it ended.
+/// Returns the state of a run after a part that ended by `end`, if it ended.
 pub(crate) fn pause_by(end: Option<End>) -> Pause
     ensures { result ≡ pause_by end }
 {

@@ -27,7 +27,7 @@ use bb_run::{
 };
 use std::alloc::Global;
 
-/// A run between two moves of its host: its plan, its blackboard and agenda, and the natives handed in. It can't be
+/// A run between two moves of its host: its plan, its blackboard and agenda, and the natives passed in. It can't be
 /// dropped, because the natives must be closed: `finish` and `close` consume it. After a move was cut short, because
 /// memory ran out or the output failed, no other move can be made, and the blackboard is one from the middle of that
 /// move.
@@ -69,7 +69,7 @@ fn take_turn<N: NativeSource, O: Out>(
 }
 
 impl<N: NativeSource> Running<N> {
-    /// Begins a run from the first state of a blackboard with the natives handed in: emits what the creation of the
+    /// Begins a run from the first state of a blackboard with the natives passed in: emits what the creation of the
     /// initial units noted, and processes its events. `Memory`: memory ran out. `Write`: the output failed. After an
     /// error every native is closed, and the blackboard is dropped. The blackboard has the plan's schema, and the
     /// sources were made under it, from codes that the verifier accepted under it. If a source has neither a code for
@@ -240,10 +240,10 @@ impl<N: NativeSource> Running<N> {
         }
     }
 
-    /// Ends the run; if it can still continue, it first comes to rest, or to its limit. Emits its end and what every
-    /// native reports at its close, and returns the blackboard. `Memory`: memory ran out. `Write`: the output failed. A
-    /// run that was cut short can't be finished, only closed. Nor can a run with a native due, which can be answered
-    /// first, or closed.
+    /// Ends the run; if it can still continue, it first reaches rest, or its limit. Emits its end and what every native
+    /// reports at its close, and returns the blackboard. `Memory`: memory ran out. `Write`: the output failed. A run
+    /// that was cut short can't be finished, only closed. Nor can a run with a native due, which can be answered first,
+    /// or closed.
     pub fn finish<O: Out>(self, out: &mut O) -> (Finish, Board)
         requires open { O.has_failed out.old ≡ false }
         requires whole { self.cut ≡ None }
@@ -284,8 +284,8 @@ impl<N: NativeSource> Running<N> {
         }
     }
 
-    /// Closes every native once, in order; returns what each reported and the blackboard. Writes nothing, so the trace
-    /// has no finish, and needs no memory.
+    /// Closes every native once, in order; returns what each reported and the blackboard. Writes nothing and needs no
+    /// memory; the trace has no finish.
     pub fn close(self) -> (Closed, Board)
         ensures closed { result.0 ≡ closings_of (map N.meaning self.state.roster.natives.items) }
         ensures board { result.1 ≡ self.state.board }

@@ -13,7 +13,7 @@ use bb_board::Event;
 use bb_rules::{Clause, KindIndex, Reaction, Source};
 use std::alloc::{AllocError, Global};
 
-/// For each kind of event, the places of the sources that have a clause of that kind, in order.
+/// For each kind of event, the indices of the sources that have a clause of that kind, in order.
 pub(crate) struct Concerned {
     changes: KindIndex,
     quiescence: IdSet,
@@ -40,7 +40,7 @@ impl Concerned {
         }
     }
 
-    /// Finds, for every kind of event, the places of the sources that it concerns. The error: out of memory.
+    /// Finds, for every kind of event, the indices of the sources that it concerns. The error: out of memory.
     pub(crate) fn of(alloc: Global, sources: &[Source]) -> Result<Concerned, AllocError>
         requires { length sources.now ≤ SOURCE_LIMIT }
         ensures { IfOk result (λ concerned. AreConcerned sources.now concerned) }
@@ -52,7 +52,7 @@ impl Concerned {
         Ok(concerned)
     }
 
-    /// Returns the places kept for the kind of an event.
+    /// Returns the indices kept for the kind of an event.
     pub(crate) fn by(&self, event: Event) -> &[u16]
         ensures { result.now ≡ places_for self.now event }
     {

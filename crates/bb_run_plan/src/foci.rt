@@ -1,5 +1,5 @@
-//! The foci of the blackboard: units of the built-in class `focus` and its descendants. A run (bb_run) tells the agenda
-//! all of them when it begins, and then each unit that the notes of the blackboard name.
+//! The foci of the blackboard: units of the built-in class `focus` and its descendants. A run (bb_run) reports all of
+//! them to the agenda when it begins, and then every unit that the notes of the blackboard name.
 
 ghost use Rattle.std.specs.Prelude.{◌≡◌, IfOk, map, option_map};
 ghost use Rattle.bb_board.specs.Units.{value_of};

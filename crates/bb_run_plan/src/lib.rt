@@ -3,7 +3,7 @@
 //!
 //! - In: a schema, and sources made under it.
 //! - Out: a `Plan`, which finds the sources that an event concerns by the event's kind. `tell_all` and `tell_notes`
-//!   tell an agenda which foci a blackboard has.
+//!   report to an agenda which foci a blackboard has.
 //! - Callers rely on: every code of a source was accepted, and the sources that a plan names for an event are those
 //!   with a clause of its kind, in order.
 //! - Cases: `runs` and `model-runs`.

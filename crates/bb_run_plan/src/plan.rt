@@ -99,7 +99,7 @@ impl Plan {
         self.sources.as_slice()
     }
 
-    /// Returns the places of the sources that have a clause of the kind of an event, in order. The look-up time does
+    /// Returns the indices of the sources that have a clause of the kind of an event, in order. The look-up time does
     /// not depend on the number of sources.
     pub fn concerned(&self, event: Event) -> &[u16]
         ensures { result.now ≡ concerned event self.now.sources }

@@ -1,5 +1,5 @@
-//! A schema without spaces, whose slots are found by name without a scan. The reader of spaces looks up in it which slots
-//! dimensions read, and the tables of what they read (readings.rt) are made by it.
+//! A schema without spaces, whose slots are found by name without a scan. The reader of spaces looks up in it which
+//! slots dimensions read, and the tables of what they read (readings.rt) are made by it.
 
 ghost use Rattle.std.specs.Prelude.{◌≡◌, IfOk, map};
 ghost use Rattle.bb_schema_classes.specs.proving.Entries.{indexed_place};
@@ -79,7 +79,7 @@ impl<'a> BareSchema<'a> {
         self.schema
     }
 
-    /// Returns the first slot with a name, of whatever class.
+    /// Returns the first slot with a name, of any class.
     pub(crate) fn first(&self, name: &str) -> Option<usize>
         ensures { result ≡ first_named self.now.slots name.now }
     {

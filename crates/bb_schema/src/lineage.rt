@@ -1,5 +1,5 @@
-//! Which class descends from which, decided by the spans of the classes. A schema uses this, and so does the table of
-//! deleted classes (struck.rt), which is made before the schema.
+//! The descent of classes from classes, decided by their spans. A schema uses this, and the table of deleted classes
+//! (struck.rt), which is made before the schema, does too.
 
 ghost use Rattle.std.specs.Prelude.{◌≡◌, ◌≤◌, ◌↔◌, IsTrue, length};
 ghost use Rattle.std.specs.List.{list_any};

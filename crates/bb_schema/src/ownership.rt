@@ -27,7 +27,7 @@ impl Schema {
     }
 
     /// Returns whether a delete of a unit of class `deleted` may delete a unit of class `class`: `class` is related to
-    /// a class of the least set that has `deleted` and the target class of every owning slot that is declared by a
+    /// a class of the smallest set that has `deleted` and the target class of every owning slot that is declared by a
     /// class related to a class of the set.
     pub fn strikes(&self, deleted: ClassId, class: ClassId) -> bool
         ensures { result ≡ strikes self.now deleted class }

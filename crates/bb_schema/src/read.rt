@@ -110,8 +110,8 @@ impl Schema {
     /// Returns the schema that a JSON document declares, or its first fault: `Json` if the text is not JSON, then
     /// `Shape` if the JSON has another form, then the first fault of a walk over the entries: label sets with their
     /// labels, classes with their slots and then links, spaces with their classes and then dimensions. At each entry,
-    /// checks are made in the order of the faults' numbers. The place is the entry with the fault, or the whole
-    /// document for `Json` and for a fault of the document's own form. `Memory` has no place and may occur at any
+    /// checks are made in the order of the faults' numbers. The location is the entry with the fault, or the whole
+    /// document for `Json` and for a fault of the document's own form. `Memory` has no location and may occur at any
     /// point.
     #[tactic(auto, unfolding(crate::specs::Reading::schema_of))]
     pub fn read(alloc: Global, text: &str) -> Result<Schema, SchemaFault>

@@ -1,5 +1,5 @@
-//! What dimensions read: for each slot, the dimensions with its name, and for each dimension, the slot of a class with its
-//! name. `Schema::read` makes the tables once, so that changes of a blackboard compare no names.
+//! What dimensions read: for each slot, the dimensions with its name, and for each dimension, the slot of a class with
+//! its name. `Schema::read` makes the tables once, so that changes of a blackboard compare no names.
 
 ghost use Rattle.std.specs.Prelude.{◌≡◌, false, IfOk, map};
 ghost use Rattle.std.specs.List.{fold, range_with_len};
@@ -17,14 +17,15 @@ use bb_basis::{Items, Table};
 use bb_schema_classes::{ClassId, SlotId, copy_of, row_if, slot_among};
 use std::alloc::{AllocError, Global};
 
-/// What dimensions read. The first slot with a name tells the name.
+/// The slots that dimensions read. The first slot with a name identifies the name.
 #[derive(Drop)]
 pub(crate) struct Readings {
     /// For each slot, the first slot with its name.
     pub firsts: Items<Option<usize>>,
     /// For each space and each of its dimensions, the first slot with its name, if a slot has it.
     pub dims: Items<Items<Option<usize>>>,
-    /// For each first slot with a name that a dimension has, and for each space, the index of its dimension with the name.
+    /// For each first slot with a name that a dimension has, and for each space, the index of its dimension with the
+    /// name.
     pub rows: Items<Items<Option<u8>>>,
 }
 
@@ -110,8 +111,8 @@ fn rows_of(
 }
 
 impl Readings {
-    /// Returns what the dimensions of these spaces read. Compares no more numbers than the dimensions of all spaces for
-    /// each name that a dimension has.
+    /// Returns the slots that the dimensions of these spaces read. For every name of a dimension, compares at most n
+    /// numbers, with n the number of dimensions of all spaces.
     pub(crate) fn of(
         alloc: Global,
         bare: &BareSchema,
@@ -147,8 +148,8 @@ impl Schema {
         slot_among(firsts, found.slots.as_slice(), first)
     }
 
-    /// Returns for each space the index of its dimension that reads a slot: the dimension with the slot's name. No list if
-    /// no space reads the slot. Compares no names.
+    /// Returns for each space the index of its dimension that reads a slot: the dimension with the slot's name. No list
+    /// if no space reads the slot. Compares no names.
     pub fn readings(&self, slot: SlotId) -> &[Option<u8>]
         ensures { result.now ≡ readings_of self.now slot }
     {
@@ -164,8 +165,8 @@ impl Schema {
         }
     }
 
-    /// Returns the slot of a class that a dimension of a space reads: the slot with the dimension's name. `None` if there
-    /// is no such class, space or dimension, or if the class has no such slot. Compares no names.
+    /// Returns the slot of a class that a dimension of a space reads: the slot with the dimension's name. `None` if the
+    /// class, space or dimension does not exist, or if the class lacks the slot. Compares no names.
     pub fn slot_read(&self, class: ClassId, space: SpaceId, dim: usize) -> Option<SlotId>
         ensures { result ≡ slot_read self.now class space dim }
     {
@@ -174,7 +175,7 @@ impl Schema {
         self.slot_by(self.readings.firsts.as_slice(), class, first)
     }
 
-    /// Returns the schema with these spaces and what their dimensions read, instead of its own.
+    /// Returns the schema with its spaces, and the slots that their dimensions read, replaced by these.
     pub(crate) fn with_spaces(self, spaces: Table<Space>, readings: Readings) -> Schema
         requires spaces { AreSpaces self spaces }
         requires readings { AreReadings (record self { spaces = spaces }) readings }

@@ -1,5 +1,5 @@
-//! Relations of numbers as tables of truth values, with a row for each number: the numbers that it leads to. The table
-//! of deleted classes (struck.rt) is built from one.
+//! Relations of numbers as tables of truth values, with a row for each number: the numbers that it is related to. The
+//! table of deleted classes (struck.rt) is built from one.
 
 ghost use Rattle.std.specs.Prelude.{◌≡◌, map, length, IfOk};
 ghost use Rattle.bb_schema.specs.proving.Relation.{row_has, row_at, through, passed, closed_by};

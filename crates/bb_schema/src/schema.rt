@@ -153,7 +153,7 @@ impl Schema {
         Some(self.label_sets.get(set as usize)?.name.as_str())
     }
 
-    /// Returns the name of a label of a set, or `None` if there is no such set or label.
+    /// Returns the name of a label of a set, or `None` if the set or the label does not exist.
     pub fn label_name(&self, set: LabelSetId, label: LabelId) -> Option<&str>
         ensures { option_map (λ n. n.now) result ≡ name_of_label self.now set label }
     {

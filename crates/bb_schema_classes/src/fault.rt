@@ -1,5 +1,5 @@
-//! Why a document does not declare a schema. `Walked::of` returns this, and so does `Schema::read` of `bb_schema`,
-//! which adds the faults of the form and of spaces.
+//! Why a document does not declare a schema. `Walked::of` returns this. `Schema::read` of `bb_schema` also returns it,
+//! and adds the faults of the form and of spaces.
 
 ghost use Rattle.std.specs.Prelude.{◌≡◌};
 ghost use Rattle.bb_basis.specs.Results.{map_err};
@@ -60,7 +60,7 @@ impl SchemaFlaw {
 /// Why a document does not declare a schema: the first flaw in reading order, and the entry that has it.
 #[derive(Clone, Copy, Debug, PartialEq, Eq, Error)]
 pub enum SchemaFault {
-    /// The flaw of the entry at the place. For a text that is not JSON, the place is the whole document.
+    /// The flaw of the entry at the location. For a text that is not JSON, the location is the whole document.
     #[error("{flaw}")]
     At {
         flaw: SchemaFlaw,
@@ -92,7 +92,7 @@ impl SchemaFault {
         }
     }
 
-    /// Returns the fault of an entry, with its place seen from the value that lists the entry.
+    /// Returns the fault of an entry, with its location seen from the value that lists the entry.
     pub fn inside(self, list: ListKey, index: usize) -> SchemaFault
         ensures { result ≡ inside list index self }
     {
@@ -106,7 +106,7 @@ impl SchemaFault {
     }
 }
 
-/// Returns the result of reading an entry of a list, with a fault at the entry's place in that list.
+/// Returns the result of reading an entry of a list, with a fault at the entry's location in that list.
 pub fn placed<T>(
     answer: Result<T, SchemaFault>,
     list: ListKey,

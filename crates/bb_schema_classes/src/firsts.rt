@@ -1,5 +1,5 @@
-//! Names told by the first slots that have them: which slot of some has the name of a first slot, and which dimensions
-//! do. bb_schema keeps tables of first slots, so that a run compares no names.
+//! Names represented by the first slots that have them: which slot of some has the name of a first slot, and which
+//! dimensions do. bb_schema keeps tables of first slots, so that a run compares no names.
 
 ghost use Rattle.std.specs.Prelude.{◌≡◌, IfOk, find, map, position};
 ghost use Rattle.bb_schema_classes.specs.Firsts.{is_at, has_first, place_in, row_if};
@@ -27,7 +27,7 @@ fn has_first(firsts: &[Option<usize>], first: usize, slot: SlotId) -> bool
     }
 }
 
-/// Returns the first of these slots whose name is that of a first slot.
+/// Returns the first of these slots with the name of a first slot.
 pub fn slot_among(firsts: &[Option<usize>], numbers: &[SlotId], first: usize) -> Option<SlotId>
     ensures { result ≡ find (has_first firsts.now first) numbers.now }
 {

@@ -1,4 +1,4 @@
-//! The kinds of slots, and the numbers of slots. A slot's kind is that of its default, or its link.
+//! The kinds of slots, and the numbers of slots. A slot's kind is the kind of its default, or its link.
 
 use crate::class::ClassId;
 use crate::label_set::LabelSetId;
@@ -19,7 +19,7 @@ pub enum Kind {
     Link(Link),
 }
 
-/// A link slot leads to units of a class. Its inverse is a slot of that class and leads back.
+/// A link slot points to units of a class. Its inverse is a slot of that class and points back.
 #[derive(Clone, Copy, Debug, PartialEq, Drop)]
 pub struct Link {
     pub to: ClassId,

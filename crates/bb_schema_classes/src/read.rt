@@ -41,8 +41,8 @@ pub struct Walked {
 impl Walked {
     /// Returns the result of the walk over the entries, with `focus` before all other classes, or the first fault. The
     /// order is label sets with their labels, then classes with their slots and then links. A fault has its entry as
-    /// place, and at each entry checks are made in the order of the faults' numbers. `Memory` may occur at any point.
-    /// The intervals of the entries must be in order, as `Document::read` ensures.
+    /// location, and at each entry checks are made in the order of the faults' numbers. `Memory` may occur at any
+    /// point. The intervals of the entries must be in order, as `Document::read` ensures.
     #[tactic(auto, unfolding(crate::specs::Walk::walk_of))]
     pub fn of(
         alloc: Global,

@@ -23,7 +23,7 @@ impl Drop for LabelSetEntry {
     }
 }
 
-/// A class, with the slots that it adds to those of its parent.
+/// A class, with the slots that it adds to its parent's slots.
 pub struct ClassEntry {
     pub name: String,
     pub parent: Option<String>,
@@ -148,7 +148,7 @@ pub struct UnitsDocument {
     pub spaces: Vec<MemberEntry>,
 }
 
-/// An initial unit, with the name by which its document refers to it.
+/// An initial unit, with the name that its document uses for it.
 pub struct UnitEntry {
     pub name: String,
     pub class: String,
@@ -205,8 +205,8 @@ impl Drop for GivenValue {
     }
 }
 
-/// A link between initial units: a unit, a link slot of its class, and the unit that it leads to. Units are named as in
-/// the document.
+/// A link between initial units: a unit, a link slot of its class, and the unit that it points to. Units are named as
+/// in the document.
 pub struct FirstLinkEntry {
     pub from: String,
     pub slot: String,

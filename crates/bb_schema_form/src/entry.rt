@@ -32,7 +32,8 @@ pub(crate) trait Entry: Sized {
         ensures { Gives OutOfMemory declared result (form (view value.now)) };
 }
 
-/// Returns the entries that the values of a list declare, in their order, or the first fault, with its entry as place.
+/// Returns the entries that the values of a list declare, in their order, or the first fault, with its entry as
+/// location.
 pub(crate) fn entries<E: Entry>(
     alloc: Global,
     list: ListKey,

@@ -16,7 +16,7 @@ pub enum DocumentFault {
     #[error("the document is not JSON")]
     Json,
     /// The JSON does not have the form of the document: an unknown key, a missing one, or a value of another form. The
-    /// place is the first entry, in reading order, with a wrong form.
+    /// location is the first entry, in reading order, with a wrong form.
     #[error("the document does not have the form that it should have")]
     Shape { place: DocumentPlace },
     /// Memory ran out.
@@ -25,7 +25,7 @@ pub enum DocumentFault {
 }
 
 impl DocumentFault {
-    /// Makes the fault of a value with a wrong form of its own, not of an entry of one of its lists.
+    /// Makes the fault of a value whose own form is wrong, not the form of an entry of one of its lists.
     pub(crate) fn misshapen() -> DocumentFault
         ensures { result ≡ misshapen }
     {
@@ -34,7 +34,7 @@ impl DocumentFault {
         }
     }
 
-    /// Returns the fault of an entry, with its place seen from the value that lists the entry.
+    /// Returns the fault of an entry, with its location seen from the value that lists the entry.
     pub(crate) fn inside(self, list: ListKey, index: usize) -> DocumentFault
         ensures { result ≡ inside list index self }
     {
@@ -48,7 +48,7 @@ impl DocumentFault {
     }
 }
 
-/// Returns the result of reading an entry of a list, with a fault at the entry's place in that list.
+/// Returns the result of reading an entry of a list, with a fault at the entry's location in that list.
 pub(crate) fn placed<T>(
     answer: Result<T, DocumentFault>,
     list: ListKey,

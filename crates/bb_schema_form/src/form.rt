@@ -30,8 +30,8 @@ use std::alloc::{AllocError, Global};
 impl Document {
     /// Returns what a schema's document declares. `Json` if the text is not JSON, then `Shape` if the JSON does not
     /// have the form of a schema: a key that no such object has, a missing key, or a value of another form, `null`
-    /// included. The place is the first entry with such a fault; the order is label sets, classes with their slots and
-    /// then links, spaces with their classes and then dimensions. `Memory` may occur at any point.
+    /// included. The location is the first entry with such a fault; the order is label sets, classes with their slots
+    /// and then links, spaces with their classes and then dimensions. `Memory` may occur at any point.
     #[tactic(auto, unfolding(crate::specs::Form::document_of))]
     pub fn read(alloc: Global, text: &str) -> Result<Document, DocumentFault>
         ensures gives { Gives OutOfMemory declarations result (document_of text.now) }

@@ -1,5 +1,5 @@
 //! Converts a tree over borrowed text to a value of `serde_json`, which owns its text: the value that `serde_json`
-//! makes of the same JSON. Returns `None` if memory ran out, or if `serde_json` takes a number for a float: a number
+//! makes of the same JSON. Returns `None` if memory ran out, or if `serde_json` reads a number as a float: a number
 //! that is not an integer of 64 bits, or is `-0`.
 
 ghost use Rattle.std.specs.Prelude.{◌≡◌, ◌==◌, ◌<◌, Some, IfSome, IsTrue, false, length, map, slice_index, true};

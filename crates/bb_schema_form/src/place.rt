@@ -1,4 +1,4 @@
-//! Where in a document a fault is: at an entry of one of its lists. Faults of both documents have such places.
+//! The location of a fault in a document: an entry of one of its lists. Faults of both documents have such locations.
 
 ghost use Rattle.std.specs.Prelude.{◌≡◌};
 ghost use Rattle.bb_schema_form.specs.Places.{inside_place, list_key};
@@ -64,7 +64,7 @@ pub enum DocumentPlace {
 }
 
 impl DocumentPlace {
-    /// Returns the place of an entry, seen from the value that lists the entry. Entries are nested at most two deep.
+    /// Returns the location of an entry, seen from the value that lists the entry. Entries are nested at most two deep.
     pub fn inside(self, list: ListKey, index: usize) -> DocumentPlace
         ensures { result ≡ inside_place list index self }
     {

@@ -26,7 +26,7 @@ use std::alloc::{AllocError, Global};
 impl UnitsDocument {
     /// Returns what the document of initial units declares. `Json` if the text is not JSON, then `Shape` if the JSON
     /// does not have the form of initial units: a key that no such object has, a missing key, or a value of another
-    /// form. A slot may have any value; elsewhere `null` is a fault too. The place is the first entry with such a
+    /// form. A slot may have any value; elsewhere `null` is a fault too. The location is the first entry with such a
     /// fault; the order is units, links, spaces. `Memory` may occur at any point.
     #[tactic(auto, unfolding(crate::specs::UnitsDocument::units_document_of))]
     pub fn read(alloc: Global, text: &str) -> Result<UnitsDocument, DocumentFault>

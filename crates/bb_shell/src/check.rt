@@ -24,7 +24,7 @@ pub struct Check {
     /// How far the lines about the input were written.
     pub done: Done,
     pub schema: Schema,
-    /// The sources of the input: those that are text, then those of the bundle.
+    /// The sources of the input: the sources that are text, then the sources of the bundle.
     pub sources: Vec<Source>,
 }
 

@@ -1,5 +1,5 @@
-//! The sources of an input, from its two texts: those of the language (compiled.rt) and those of a bundle. The run
-//! (texts.rt) and the check (check.rt) of an input begin with them.
+//! The sources of an input, from its two texts: the sources in the language (compiled.rt) and the sources of a bundle.
+//! The run (texts.rt) and the check (check.rt) of an input begin with them.
 
 ghost use Rattle.std.specs.Prelude.{◌≡◌, ◌≤◌, length, IfOk};
 ghost use Rattle.bb_basis.specs.Results.{Gives, map_err};
@@ -16,8 +16,8 @@ use bb_run::{Closing, SOURCE_LIMIT};
 use bb_schema::Schema;
 use std::alloc::Global;
 
-/// Returns the sources that run together: those that are text, then those of the bundle. All texts are compiled before
-/// the bundle is read, and the whole bundle is read before any code is verified.
+/// Returns the sources that run together: the sources that are text, then the sources of the bundle. All texts are
+/// compiled before the bundle is read, and the whole bundle is read before any code is verified.
 #[tactic(auto, unfolding(crate::specs::Sources::given))]
 pub(crate) fn given(
     alloc: Global,

@@ -13,7 +13,7 @@ use bb_refusal::InputFault;
 use bb_run::{Board, Closing, NativeSource, Plan, Roster};
 use std::alloc::{AllocError, Global};
 
-/// A blackboard and the sources that run on it, which may act by natives handed in, and by natives with names that the
+/// A blackboard and the sources that run on it, which may act by natives passed in, and by natives with names that the
 /// host answers for. The host holds its run: it stops when one of the latter is due, and the host answers
 /// (`Running::answer` of bb_run_held). It can't be dropped, because its natives must be closed: `into_parts` consumes
 /// it.
@@ -27,7 +27,7 @@ pub struct HostedShell<N: NativeSource> {
 
 impl<N: NativeSource> HostedShell<N> {
     /// Creates a shell from the texts of an input, as `Shell::of_texts` does; but a source may also act by a native
-    /// with one of the names `outside`. If the input is refused, every native handed in is closed, in order.
+    /// with one of the names `outside`. If the input is refused, every native passed in is closed, in order.
     pub fn of_texts(
         alloc: Global,
         texts: &Texts<'_>,
@@ -62,7 +62,7 @@ impl<N: NativeSource> HostedShell<N> {
         &self.plan
     }
 
-    /// Returns the plan, the blackboard and the natives, with which `Running::of_hosted` (bb_run_held) begins a run.
+    /// Returns the plan, the blackboard and the natives, for `Running::of_hosted` (bb_run_held) to begin a run with.
     pub fn into_parts(self) -> (Plan, Board, Roster<N>)
         ensures plan { result.0 ≡ self.plan }
         ensures board { result.1 ≡ self.board }

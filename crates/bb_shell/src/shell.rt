@@ -22,7 +22,7 @@ use bb_rules::{RuleFault, Source};
 use bb_run::{Board, Closing, Finish, Halt, NativeSource, Out, Plan, Roster, Start, run_to_end};
 use std::alloc::Global;
 
-/// A blackboard, the sources that run on it, in order, the natives handed in, and the minimum rating that can be chosen
+/// A blackboard, the sources that run on it, in order, the natives passed in, and the minimum rating that can be chosen
 /// (GBBopen Reference Manual, Agenda Shell). It can't be dropped, because its natives must be closed: `run`,
 /// `run_to_end` and `into_parts` consume it.
 pub struct Shell<N: NativeSource> {
@@ -37,7 +37,7 @@ pub struct Shell<N: NativeSource> {
 impl<N: NativeSource> Shell<N> {
     /// Creates a shell of these sources, in order, with the natives of a roster. The host has made the sources under
     /// the schema of the blackboard, from codes that were verified under it. The fault is the first, source by source:
-    /// `Twice`; `Limit` past 256 sources; `Native` if no native of its name was handed in. `Memory`: memory ran out.
+    /// `Twice`; `Limit` past 256 sources; `Native` if no native of its name was passed in. `Memory`: memory ran out.
     /// After a fault every native is closed, in order, and blackboard and sources are dropped.
     pub fn new(
         alloc: Global,
@@ -65,9 +65,9 @@ impl<N: NativeSource> Shell<N> {
         }
     }
 
-    /// Creates a shell from the texts of an input, with the natives handed in: schema, initial units, the sources that
-    /// are text and then those of a bundle. An input is refused at the first step that refuses it, in the order of
-    /// `run_texts`; then every native is closed, in order.
+    /// Creates a shell from the texts of an input, with the natives passed in: schema, initial units, the sources that
+    /// are text and then the sources of a bundle. An input is refused at the first step that refuses it, in the order
+    /// of `run_texts`; then every native is closed, in order.
     pub fn of_texts(
         alloc: Global,
         texts: &Texts<'_>,
@@ -96,7 +96,7 @@ impl<N: NativeSource> Shell<N> {
 
     /// Runs the shell for at most `limit` cycles and writes the trace. Every native is closed once, in order, however
     /// the run ends. `Memory`: memory ran out. `Write`: the output failed. The machine's run is not stuck and keeps its
-    /// budgets, also where it is cut short here.
+    /// budgets, also if it is cut short here.
     pub fn run<O: Out>(self, alloc: Global, limit: u32, out: &mut O) -> Finish
         requires open { O.has_failed out.old ≡ false }
         ensures finish { IfSome (end_of result) (λ end.
@@ -158,7 +158,7 @@ impl<N: NativeSource> Shell<N> {
         &self.plan
     }
 
-    /// Returns the plan, the blackboard and the natives, with which `Running::of_shell` (bb_run_held) begins a run that
+    /// Returns the plan, the blackboard and the natives, for `Running::of_shell` (bb_run_held) to begin a run with that
     /// the host holds.
     pub fn into_parts(self) -> (Plan, Board, Roster<N>)
         ensures plan { result.0 ≡ self.plan }

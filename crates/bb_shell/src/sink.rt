@@ -2,7 +2,7 @@
 
 use crate::Out;
 
-/// An output that takes everything, keeps nothing, and never fails.
+/// An output that accepts everything, keeps nothing, and never fails.
 #[derive(Drop)]
 pub(crate) struct Sink;
 

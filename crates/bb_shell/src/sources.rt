@@ -29,8 +29,8 @@ pub(crate) enum Resolution {
 }
 
 /// Returns the sources that run together: the codes of each are accepted, then the names of each are resolved, then
-/// each must fit the earlier ones. The fault is that of the first step that refuses a source. No source is kept after
-/// one that does not fit.
+/// each must fit the earlier ones. The fault is the fault of the first step that refuses a source. No source is kept
+/// after one that does not fit.
 pub(crate) fn sources_for(
     alloc: Global,
     natives: &[Closing],

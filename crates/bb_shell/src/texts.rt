@@ -23,11 +23,11 @@ use bb_schema::{Schema, SharedSchema};
 use bb_schema_classes::SchemaFault;
 use std::alloc::Global;
 
-/// Runs a schema, its initial units, the sources that are text and then those of a bundle, for at most `limit` cycles
-/// and with no activation rated below `floor`; writes the trace. An input is refused at the first step that refuses it,
-/// in this order: schema, units, the text of sources, their compilation, bundle, codes, rules; then nothing is written.
-/// Every native is closed once, in order, whatever is returned and whether it was called or not. `Memory`, as a refusal
-/// or a finish: memory ran out.
+/// Runs a schema, its initial units, the sources that are text and then the sources of a bundle, for at most `limit`
+/// cycles and with no activation rated below `floor`; writes the trace. An input is refused at the first step that
+/// refuses it, in this order: schema, units, the text of sources, their compilation, bundle, codes, rules; then nothing
+/// is written. Every native is closed once, in order, regardless of the result and of whether it was called. `Memory`,
+/// as a refusal or a finish: memory ran out.
 pub fn run_texts<N: NativeSource, O: Out>(
     alloc: Global,
     schema: &str,

@@ -22,8 +22,9 @@ pub struct Left {
 }
 
 /// Runs the texts of an input as `run_texts` does, but writes no trace: the final contents of the blackboard become a
-/// document of initial units (`units_document`). Every native is closed once, in order, whatever is returned. An input
-/// is refused if `run_texts` refuses it, with the same fault. `Memory`: memory ran out, before or after the run ended.
+/// document of initial units (`units_document`). Every native is closed once, in order, regardless of the result. An
+/// input is refused if `run_texts` refuses it, with the same fault. `Memory`: memory ran out, before or after the run
+/// ended.
 pub fn units_texts<N: NativeSource>(
     alloc: Global,
     texts: &Texts<'_>,

@@ -1,5 +1,5 @@
-//! Natives that ask for what is refused, for the last unit that fits, for long texts, and for what they removed
-//! themselves.
+//! Natives that ask for changes that are refused, for the last unit that fits, for long texts, and for what they
+//! removed themselves.
 
 ghost use Rattle.std.specs.Prelude.{◌≡◌, true, map, IfOk};
 ghost use Rattle.bb_shell.specs.Roster.{all_open};

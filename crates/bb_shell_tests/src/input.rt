@@ -1,4 +1,4 @@
-//! The inputs of the tests. They are public, so they are built without tests too.
+//! The inputs of the tests. They are public and therefore built without tests too.
 
 /// A schema with one class.
 pub const NOTE_SCHEMA: &str = r#"{"classes":[{"name":"note"}]}"#;

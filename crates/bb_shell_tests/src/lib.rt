@@ -1,5 +1,5 @@
 //! Tests across crates that no case can make: whether two schemas are the same; natives and what they ask for; a shell
-//! that a host makes of its own board and sources; and the numbers and reports of refusals.
+//! that a host makes from its own board and sources; and the numbers and reports of refusals.
 #![tactic(auto)]
 
 #[cfg(test)]

@@ -1,5 +1,5 @@
 //! Natives of a host that is refused something during a run: memory, a write or a read. They are closed, each once and
-//! in order, whatever is refused.
+//! in order, regardless of which of these is refused.
 
 use crate::input::{FIRST, Input};
 use crate::natives::recorders;

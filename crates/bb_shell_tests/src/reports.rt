@@ -1,4 +1,4 @@
-//! The reports on refused inputs: the sentence of each step, what is shown of its location, and the line with its
+//! The reports on refused inputs: the sentence of each step, the details shown of its location, and the line with its
 //! caret.
 
 use crate::input::{FIRST, HAIL, Input, NOTE_SCHEMA, ONE_NOTE};

@@ -1,4 +1,4 @@
-//! The roles of the natives in asking.rt. Definitions name them, so they are built without tests too.
+//! The roles of the natives in asking.rt. Definitions name them; they are therefore built without tests too.
 
 /// What an asker asks for.
 #[derive(Clone, Copy, Debug, PartialEq, Eq)]

@@ -1,4 +1,4 @@
-//! Natives handed in with an input that is refused before its sections are examined.
+//! Natives passed in with an input that is refused before its sections are examined.
 
 use crate::natives::recorders;
 use bb_main::{Intake, Mode, serve};

@@ -1,5 +1,5 @@
-//! The index of a space: the set of the keys of its values (`Place`), and the ranges in which values can pass a test.
-//! `members.rt` keeps the set up to date and asks for candidates.
+//! The index of a space: the set of the keys of its values (`Place`), and the ranges of the values that can pass a
+//! test. `members.rt` keeps the set up to date and asks for candidates.
 
 mod costs;
 mod index;
@@ -14,7 +14,7 @@ pub use costs::{
     CLOSE_NUMBERS, FEW_UNITS, FIRST_CANDIDATES, FOUND, MARKED_NUMBERS, MORE_CANDIDATES, ROUNDS,
     SORTED,
 };
-pub use index::{put_all, take_all};
+pub(crate) use index::{put_all, take_all};
 pub use leaf::Leaf;
 pub use near::{collect_near, count_passing, is_few, rise};
 pub use pair::few_by_two;

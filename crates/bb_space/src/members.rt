@@ -22,7 +22,7 @@ use std::alloc::{AllocError, Global};
 use std::collections::{BTreeMap, BTreeSet};
 use std::mem;
 
-/// The members of a space, each with its values on the dimensions in order, and the place of each value in the index.
+/// The members of a space, each with its values on the dimensions in order, and the key of each value in the index.
 #[derive(Drop)]
 pub(crate) struct Members {
     values: BTreeMap<UnitId, Items<DimValue>>,
@@ -96,8 +96,8 @@ impl Members {
         }
     }
 
-    /// Adds the places of values that a unit is about to get, except places of its present values. An error may leave
-    /// some of the new places in the index.
+    /// Adds the index keys of values that a unit is about to get, except keys of its present values. An error may leave
+    /// some of the new keys in the index.
     pub(crate) fn prepare(&mut self, unit: UnitId, values: &[DimValue]) -> Result<(), Memory>
         ensures same { self.new.values ≡ self.old.values }
         ensures put { ArePut unit values.now self.old.places self.new.places }
@@ -110,7 +110,7 @@ impl Members {
         }
     }
 
-    /// Swaps the values of a member with others whose places are in the index, or does nothing if the unit is not a
+    /// Swaps the values of a member with others whose keys are in the index, or does nothing if the unit is not a
     /// member.
     pub(crate) fn exchange(&mut self, unit: UnitId, values: &mut Items<DimValue>)
         ensures same { self.new.places ≡ self.old.places }
@@ -120,7 +120,7 @@ impl Members {
         exchange(&mut self.values, unit, values);
     }
 
-    /// Removes the places of values, except places of the unit's present values.
+    /// Removes the index keys of values, except keys of the unit's present values.
     pub(crate) fn settle(&mut self, unit: UnitId, values: &[DimValue])
         ensures same { self.new.values ≡ self.old.values }
         ensures taken { AreTaken unit values.now (unwrap_or (map.get (membership self.old) unit) [])
@@ -251,7 +251,7 @@ impl Members {
     }
 
     /// Returns members, ascending, including all whose values pass all of some tests, by two tests of neighbouring
-    /// dimensions. `None` if there are no such two, or more than `most` values can pass both.
+    /// dimensions. `None` if no two such tests exist, or more than `most` values can pass both.
     pub(crate) fn few_passing(
         &self,
         alloc: Global,

@@ -1,6 +1,6 @@
-//! Changes of a unit's values in spaces: in all given spaces or, if memory runs out, in none. The new places are added
-//! first, which may fail. Then the values are swapped and the old places removed, which can't fail. `spaces.rt` calls
-//! it.
+//! Changes of a unit's values in spaces: in all given spaces or, if memory runs out, in none. The new index keys are
+//! added first, which may fail. Then the values are swapped and the old keys removed, which can't fail. `spaces.rt`
+//! calls it.
 
 ghost use Rattle.std.specs.Prelude.{◌≡◌, ◌<◌, OnOk, OnErr, length};
 ghost use Rattle.bb_space.specs.Spaces.{after_moved, after_moves};

@@ -275,8 +275,8 @@ impl Spaces {
         self.spaces[space as usize].few(self.alloc, leaf, most)
     }
 
-    /// Returns the number of members of a space whose values, as last given, pass a test, if the index alone determines
-    /// it, as for a label, or for `More` if no interval is reversed. Visits only those that pass.
+    /// Returns the number of members of a space whose values, as last given, pass a test, if the index by itself
+    /// determines it, as for a label, or for `More` if no interval is reversed. Visits only the members that pass.
     pub fn count_passing(&self, space: SpaceId, leaf: &Leaf) -> Option<usize>
         requires { space < length self.now.spaces }
         ensures { IfSome result (λ n.
@@ -286,9 +286,10 @@ impl Spaces {
     }
 
     /// Returns members of a space, ascending, including all whose values, as last given, pass all of some tests. Uses
-    /// two tests of neighbouring dimensions, the first of which asks for one low end or one label; the first dimension
-    /// follows the last. `None` if there are no such two, or more than `most` values can pass both. Visits a number of
-    /// these that is at most proportional to `most` for each such two, plus reversed intervals, which are not counted.
+    /// two tests of neighbouring dimensions, the first test asking for one low end or one label; the first dimension
+    /// follows the last. `None` if no two such tests exist, or more than `most` values can pass both. Visits a number
+    /// of these that is at most proportional to `most` for each such two, plus reversed intervals, which are not
+    /// counted.
     pub fn few_passing(
         &self,
         space: SpaceId,

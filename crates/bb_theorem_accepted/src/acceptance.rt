@@ -14,9 +14,9 @@ use bb_schema::Schema;
 
 /// States that the verifier accepts the code of a part for that part, regardless of its statements and expressions.
 ///
-/// - `accepted`: if the classes of the part are classes of the schema, the verifier accepts each code that the compiler
-///   makes for the part, with a frame for each of its places. The condition is needed because a declared frame has the
-///   kind of each local, and a kind with another class is refused.
+/// - `accepted`: if the classes of the part are classes of the schema, the verifier accepts every code that the
+///   compiler makes for the part, with a frame for each of its op indexes. The condition is needed because a declared
+///   frame has the kind of each local, and a kind with another class is refused.
 pub fn compiled_code_is_accepted(schema: &Schema)
     ensures accepted { (part : Part) (place : Place) (block : BlockTree) (code : AnyCode) →
         HasClasses schema.now part → part_code schema.now part place block ≡ Ok code →

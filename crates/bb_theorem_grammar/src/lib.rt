@@ -1,6 +1,6 @@
 //! The grammar of the source language, as a relation between texts and trees, and theorems: `parse` (bb_lang) accepts
-//! exactly the texts of the grammar, unless memory runs out, and returns the trees that the grammar gives them. No code
-//! calls this crate.
+//! exactly the texts of the grammar, unless memory runs out, and returns the trees that the grammar gives them.
+//! `judged` states which of these the compiler refuses, and for which fault. No code calls this crate.
 #![tactic(auto)]
 
 pub mod judged;

@@ -25,9 +25,9 @@ use bb_code::Code;
 use bb_machine::{Entry, Outcome, Stop, execute};
 use std::alloc::Global;
 
-/// Executes a code from its first place for an entry, at most `limit` steps, and returns the outcome. Changes are noted
-/// on the blackboard. Every op is checked before it is done, so any code can be executed. Declared frames and loops are
-/// not read.
+/// Executes a code from its first op index for an entry, at most `limit` steps, and returns the outcome. Changes are
+/// noted on the blackboard. Every op is checked before it is done; therefore any code can be executed. Declared frames
+/// and loops are not read.
 ///
 /// `Memory` can happen at any op; the blackboard is then as after the ops before it, but may accept no more changes.
 /// `Full` happens only if no more units can be created. A code without ops that write leaves the blackboard unchanged,
@@ -35,8 +35,8 @@ use std::alloc::Global;
 /// number of a unit is used again.
 ///
 /// A code accepted for a part never goes wrong if the entry fits the part (`Begins`): every state suits the frame of
-/// its place, the answer is one of the part, and the blackboard is unchanged unless the part is `do`. The execution
-/// makes at most as many steps as the budget for the longest sequence that it found. This sequence has at most
+/// its op index, the answer is one of the part, and the blackboard is unchanged unless the part is `do`. The number of
+/// steps of the execution is at most the budget for the longest sequence that it found. This sequence has at most
 /// `UNIT_LIMIT` units. Therefore it is stuck only if the limit is below its budget, and never if the limit is at least
 /// the budget for sequences of `UNIT_LIMIT` units.
 pub fn trial(

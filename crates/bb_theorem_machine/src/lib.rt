@@ -1,6 +1,6 @@
 //! Theorems on the defensive machine: accepted codes never go wrong.
 //!
-//! - In: any code, the `Entry` that it starts with (its unit, and that of an event), a blackboard, and a limit of
+//! - In: any code, the `Entry` that it starts with (its unit, and the unit of an event), a blackboard, and a limit of
 //!   steps.
 //! - Out: `trial` returns the `Outcome`, with the answer and the steps, or the `Stop`. The law
 //!   `accepted_codes_never_go_wrong` is about the machine itself.

@@ -1,4 +1,5 @@
-//! What holds of the machine itself, whatever memory there is: how it executes accepted codes. No code calls it.
+//! Properties of the machine itself, regardless of the memory there is: how it executes accepted codes. No code calls
+//! it.
 
 ghost use Rattle.std.specs.Prelude.{◌≡◌, ◌≤◌, ℕ, true, List};
 ghost use Rattle.bb_verify.specs.Budget.{budget};
@@ -18,8 +19,8 @@ use bb_code::Code;
 ///
 /// - `answers`: if it ends with an answer, the answer is one of the part.
 /// - `parts_read`: it leaves the blackboard and its notes unchanged, unless the part is `do`.
-/// - `turns`, `turns_low`: if it is stuck, it made as many steps as the limit, which is below the budget for the longest
-///   sequence that it found.
+/// - `turns`, `turns_low`: if it is stuck, the number of its steps is the limit, which is below the budget for the
+///   longest sequence that it found.
 /// - `within_budget`: if it ends with an answer, or as full, it made no more steps than that budget.
 /// - `all_few`: no sequence has more units than there can be.
 /// - `never_stuck`: with a limit of at least the budget for such sequences, it ends with an answer, or as full.

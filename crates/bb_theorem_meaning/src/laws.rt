@@ -19,8 +19,9 @@ use bb_schema::Schema;
 
 /// States that the verifier accepts the codes of a compiled source.
 ///
-/// - `accepted`: if `compile` makes a source of a tree, its class and those of its reactions are in the schema, and the
-///   verifier accepts each of its codes for its part and these classes. So the verifier refuses no text that compiles.
+/// - `accepted`: if `compile` makes a source of a tree, its class and the classes of its reactions are in the schema,
+///   and the verifier accepts each of its codes for its part and these classes. Therefore the verifier refuses no text
+///   that compiles.
 pub fn compiled_source_is_accepted(schema: &Schema)
     ensures accepted { (text : SourceText) (draft : SourceDraft Code) →
         compiled schema.now text ≡ Ok draft → AreAccepted schema.now draft }
@@ -32,13 +33,14 @@ pub fn compiled_source_is_accepted(schema: &Schema)
 /// States what the code of a part means, regardless of its statements and expressions.
 ///
 /// - `means`: if the classes of the part are in the schema, the code means its text on every blackboard that has the
-///   schema and fits it, as each state of a run does. If an execution there begins with units that fit the part, and may
-///   make as many steps as the budget of its code allows for the longest possible sequence, then it gives the answer of
-///   the text and leaves the blackboard of the text, with its notes; it finds no room for another unit exactly if the
-///   text finds none; and it never gets stuck.
-/// - `once_each`: if the part has no `for`, as many steps as the code has ops are enough.
+///   schema and fits it, as each state of a run does. If an execution there begins with units that fit the part, and
+///   may make the number of steps that the budget of its code allows for the longest possible sequence, then it gives
+///   the answer of the text and leaves the blackboard of the text, with its notes; it finds no capacity for another
+///   unit exactly if the text finds none; and it never gets stuck.
+/// - `once_each`: if the part has no `for`, n steps are enough for a code of n ops.
 ///
-/// That the verifier accepts the code is not a condition: it does (`compiled_code_is_accepted` of bb_theorem_accepted).
+/// The verifier's acceptance of the code is not a condition: the verifier accepts it (`compiled_code_is_accepted` of
+/// bb_theorem_accepted).
 pub fn compiled_code_means_its_text(schema: &Schema)
     ensures means { (part : Part) (place : Place) (block : BlockTree) (code : Code) →
         HasClasses schema.now part → part_code schema.now part place block ≡ Ok code →
@@ -55,10 +57,10 @@ pub fn compiled_code_means_its_text(schema: &Schema)
 ///
 /// - `means`: what `compile` makes of the tree of a source has the tree's name, class, rate and clauses; it has a part
 ///   exactly if the tree has one, for the classes that the tree names; and each of its codes means the part's text, on
-///   every blackboard of the schema, in as many steps as its budget allows (`compiled_code_means_its_text`).
-/// - `once_each`: if no part has a `for`, in as many steps as the code has ops.
+///   every blackboard of the schema, in the number of steps that its budget allows (`compiled_code_means_its_text`).
+/// - `once_each`: if no part has a `for`, in n steps for a code of n ops.
 ///
-/// That the codes are within the limits of codes is not a condition: they are.
+/// The limits of codes are not a condition: the codes are within them.
 pub fn compiled_source_means_its_text(schema: &Schema)
     ensures means { (text : SourceText) (draft : SourceDraft Code) →
         compiled schema.now text ≡ Ok draft → AreMeant within_budget schema.now text draft }

@@ -15,11 +15,11 @@ use std::alloc::Global;
 
 /// Compiles the text of a source, as `compile` does.
 ///
-/// - `accepted`: what is returned is of a text without a fault, and the verifier accepts each of its codes.
+/// - `accepted`: if a source is returned, the text has no fault, and the verifier accepts each of the source's codes.
 /// - `means`: it has the name, class, rate, clauses and parts of the text, and each of its codes means the text of its
 ///   part, on every blackboard of the schema.
-/// - `refused`: a fault is the first of the text, or `Limit` at the beginning of a part that does not fit, or memory ran
-///   out.
+/// - `refused`: a fault is the first of the text, or `Limit` at the beginning of a part that does not fit, or memory
+///   ran out.
 pub fn compile_by_meaning(
     alloc: Global,
     schema: &Schema,

@@ -14,12 +14,12 @@ ghost use Rattle.bb_theorem_texts.specs.Texts.{IsRefusedInBundle, RunsAt};
 use bb_schema::Schema;
 use bb_theorem_meaning::{compiled_source_is_accepted, compiled_source_means_its_text};
 
-/// States what becomes of an input's sources that are text, for any natives and any bundle besides them.
+/// States the outcome for an input's sources that are text, for any natives and any bundle besides them.
 ///
 /// - `accepted`: if the verifier refuses a code of the input, the code belongs to the bundle: no text is refused.
-/// - `run_as_written`: the source of each text is at the text's place among the sources of the run, with the codes that
+/// - `run_as_written`: the source of each text is at the text's index among the sources of the run, with the codes that
 ///   the compiler gave for it, and each of these means the text of its part (`compiled_source_means_its_text` of
-///   bb_theorem_meaning). Its triggers, and the class and clauses of its reactions, are those of the text: each kind of
+///   bb_theorem_meaning). Its triggers, and the class and clauses of its reactions, are the text's: each kind of
 ///   change, with the class and the slot or space that the text names.
 pub fn text_sources_mean_their_text(schema: &Schema)
     ensures accepted { (natives : List (List ℕ)) (sources bundle name : List ℕ) (part : Part) (fault : VerifyFault) →

@@ -13,7 +13,7 @@ pub enum EndKind {
     Limit,
     /// The blackboard or the agenda is full.
     Full,
-    /// This activation was chosen, and its source acts by a native that was not handed in: it is due, and the host that
+    /// This activation was chosen, and its source acts by a native that was not passed in: it is due, and the host that
     /// holds the run can answer for it. No whole run ends like this.
     Due(Activation),
 }
@@ -61,7 +61,7 @@ impl End {
         kind: EndKind::Full,
     };
 
-    /// Returns the end of a run in which the native of an activation is due.
+    /// Returns the end of a run if the native of an activation is due.
     pub fn due(activation: Activation) -> End
         ensures { result ≡ Due activation }
     {

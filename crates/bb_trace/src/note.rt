@@ -11,7 +11,7 @@ pub enum Note {
     Board(bb_board::Note),
     /// A new activation.
     Triggered(Activation),
-    /// A trigger that the source at this place declined for a unit.
+    /// A trigger that the source at this index declined for a unit.
     Declined {
         source: u16,
         unit: UnitId,

@@ -1,4 +1,4 @@
-//! Where a trace is written. The page (page.rt) writes to it, and so do programs (bb_main) when they refuse an input.
+//! The output of a trace. The page (page.rt) writes to it, and programs (bb_main) do when they refuse an input.
 
 ghost use Rattle.std.specs.Prelude.{◌≡◌, ◌<◌, ◌≤◌, ◌==◌, ℕ, List, Option, Bool, false, not, length, take};
 ghost use Rattle.std.specs.Io.KnownBytes.{Appends};
@@ -6,15 +6,15 @@ ghost use Rattle.std.specs.Bool.{OnTrue as WhenTrue, OnFalse as WhenFalse};
 
 use std::io::Write;
 
-/// Where a trace is written: it takes bytes until it fails.
+/// The output of a trace: it accepts bytes until it fails.
 pub trait Out {
-    /// The bytes that the output took, if they are known.
+    /// The bytes that the output accepted, if they are known.
     ghost taken: { Self → Option (List ℕ) };
 
     /// Whether the output has failed.
     ghost has_failed: { Self → Bool };
 
-    /// Takes a prefix of the bytes, at least one, and returns its length; or takes none, returns 0 and has failed.
+    /// Accepts a prefix of the bytes, at least one, and returns its length; or accepts none, returns 0 and has failed.
     fn put(&mut self, bytes: &[u8]) -> usize
         requires some { 0 < length bytes.now }
         requires open { has_failed self.old ≡ false }

@@ -12,7 +12,7 @@ use bb_run_plan::Plan;
 use std::alloc::{AllocError, Global};
 use std::marker::Model;
 
-/// The length at which a page is written.
+/// A page is written once it has this length.
 pub const PAGE_LIMIT: usize = 65_536;
 
 // The work after which a page of any length is written, in steps of codes, so that a trace can be followed live.

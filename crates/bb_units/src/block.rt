@@ -1,5 +1,5 @@
 //! The slots of the units of a class, each with its default. `layout.rt` makes a block for each class, and `values.rt`
-//! keeps it beside the values of a unit.
+//! keeps it next to the values of a unit.
 
 ghost use Rattle.std.specs.Prelude.{◌≡◌, IfOk};
 

@@ -19,10 +19,10 @@ use std::marker::Model;
 // Gaps in a list of at most this length are not closed.
 const FEW: usize = 32;
 
-/// The live units by their numbers, which are given out here. A unit stays at one place in the slab, and a separate
-/// list maps numbers to keys. The numbers in the list rise. A deleted unit leaves a gap in it, so most look-ups go
-/// straight to their place. Once there are more gaps than live units in a list that is not short, all gaps are closed
-/// at once.
+/// The live units by their numbers, which are given out here. A unit stays at one index in the slab, and a separate
+/// list maps numbers to keys. The numbers in the list rise. A deleted unit leaves a gap in it; therefore most look-ups
+/// go straight to their position. Once there are more gaps than live units in a list that is not short, all gaps are
+/// closed at once.
 #[derive(Drop)]
 pub(crate) struct Numbered {
     // The number of the next unit, above that of each entry.
@@ -165,8 +165,7 @@ impl Numbered {
         self.next
     }
 
-    /// Returns the numbers of the live units, ascending. The list has at most twice as many entries as live units, or
-    /// is short.
+    /// Returns the numbers of the live units, ascending. The list has at most 2n entries for n live units, or is short.
     pub(crate) fn list(&self, alloc: Global) -> Result<Vec<UnitId>, Memory>
         ensures { IfOk result (λ list. list.items ≡ map.keys self.now.units) }
     {

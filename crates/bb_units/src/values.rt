@@ -1,4 +1,4 @@
-//! The values of a unit. `units.rt` reads and sets them; `layout.rt` builds those of a new unit.
+//! The values of a unit. `units.rt` reads and sets them; `layout.rt` builds the values of a new unit.
 
 ghost use Rattle.std.specs.Prelude.{◌≡◌, IfOk, option_map, slice_get, slice_set};
 ghost use Rattle.std.specs.Map.{values_of};

@@ -1,8 +1,8 @@
 //! The verifier: decides which codes are accepted for the parts of a source, and computes the step budget of each.
 //!
 //! - In: a schema, a `Code`, and the `Part` that it is for.
-//! - Out: `verify` returns a `Checked` code, with a frame for each place, or the first `VerifyFault` with its place.
-//! - Phases: the tables of the code, its jumps and loops (`nesting`), then the frames of its places.
+//! - Out: `verify` returns a `Checked` code, with a frame for each op, or the first `VerifyFault` with its op index.
+//! - Phases: the tables of the code, its jumps and loops (`nesting`), then the frames of its ops.
 //! - Callers rely on: exactly the codes of the definition (specs/Accepted.antt) are accepted, and accepted codes never
 //!   go wrong (`trial` of bb_theorem_machine).
 //! - Family: bb_verify_effect has frames and the effects of ops on them; bb_exec_lower makes the instructions of an

@@ -1,4 +1,4 @@
-//! The last phase of the verifier: the frames of all places of a code.
+//! The last phase of the verifier: the frames of all ops of a code.
 
 ghost use Rattle.std.specs.Prelude.{◌≡◌, ◌≤◌, ◌-◌, ◌∷◌, ◌++◌, IfOk, IfSome, None, Ok, Some, length, option_map, replicate, set};
 ghost use Rattle.bb_basis.specs.Results.{Gives, try_fold};
@@ -299,7 +299,7 @@ fn visit_all(
     Ok(())
 }
 
-/// Returns the frames of all places, or the first fault.
+/// Returns the frames of all ops, or the first fault.
 #[tactic(auto, unfolding(crate::specs::Places::frames_of))]
 pub(crate) fn frames_of(
     alloc: Global,

@@ -16,7 +16,7 @@ use bb_verify_effect::Part;
 use std::alloc::Global;
 
 /// Accepts a code for a part of a source, or returns its first fault: of the tables, of the jumps, of the loops, then
-/// place by place. After a fault, or if memory runs out, the code is dropped.
+/// op by op. After a fault, or if memory runs out, the code is dropped.
 #[tactic(auto, unfolding(crate::specs::Accepted::accepted, crate::specs::Accepted::checked))]
 pub fn verify(
     alloc: Global,

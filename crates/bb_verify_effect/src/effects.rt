@@ -1,4 +1,4 @@
-//! The effect of every op. The verifier's pass over the places calls it.
+//! The effect of every op. The verifier's pass over the ops calls it.
 
 ghost use Rattle.std.specs.Prelude.{◌≡◌, None};
 ghost use Rattle.bb_code.specs.Answers.{map_ok};

@@ -1,4 +1,4 @@
-//! Frames: what is known of the locals and the stack at a place. The verifier keeps one for each place.
+//! Frames: the known kinds of the locals and of the stack before an op. The verifier keeps one for each op.
 
 ghost use Rattle.std.specs.Prelude.{◌≡◌, ◌≤◌, length, map, IfOk, Ok};
 ghost use Rattle.bb_code.specs.Answers.{map_ok};
@@ -98,7 +98,7 @@ impl Frame {
         self.stack.shorten(count);
     }
 
-    /// Checks that the stack has room for another entry. `Flaw::Depth`: it has `STACK_LIMIT` entries.
+    /// Checks that the stack has space for another entry. `Flaw::Depth`: it has `STACK_LIMIT` entries.
     #[tactic(auto, unfolding(crate::specs::Frame::room))]
     pub fn room(&self) -> Result<(), Flaw>
         ensures { result ≡ room self.now }
@@ -121,7 +121,7 @@ impl Frame {
         Ok(())
     }
 
-    /// Returns the kind of a local, or `Any` if there is no such local.
+    /// Returns the kind of a local, or `Any` if the local does not exist.
     #[tactic(auto, unfolding(crate::specs::Frame::local_at))]
     pub fn local(&self, local: LocalId) -> Kind
         ensures { result ≡ local_at local self.now }

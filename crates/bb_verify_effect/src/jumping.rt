@@ -1,4 +1,4 @@
-//! The effects of ops that may jump, and of those that end the execution. `effect` calls them.
+//! The effects of ops that may jump, and of ops that end the execution. `effect` calls them.
 
 ghost use Rattle.std.specs.Prelude.{◌≡◌, None, Ok, true};
 ghost use Rattle.bb_code.specs.Answers.{map_ok};

@@ -1,5 +1,5 @@
-//! Kinds: which are allowed where others are declared, and what is known of them after a deletion. Checks of ops and
-//! edges call it, and the compiler calls `mark_stale`.
+//! Kinds: which are allowed for declared ones, and which are still known after a deletion. Checks of ops and edges call
+//! it, and the compiler calls `mark_stale`.
 
 ghost use Rattle.std.specs.Prelude.{◌≡◌, ◌≤◌, ◌++◌, drop, length, map};
 ghost use Rattle.std.specs.Cmp.Lexicographic.{pointwise};
@@ -25,7 +25,7 @@ pub fn is_same_plain(kind: Kind, other: Kind) -> bool
     }
 }
 
-/// Returns whether an entry of the stack is allowed where another kind is declared.
+/// Returns whether the kind of an entry of the stack is allowed for a declared kind.
 #[tactic(auto, unfolding(crate::specs::Kinds::weakens))]
 pub(crate) fn weakens(schema: &Schema, kind: Kind, declared: Kind) -> bool
     ensures { result ≡ weakens schema.now kind declared }
@@ -39,7 +39,7 @@ pub(crate) fn weakens(schema: &Schema, kind: Kind, declared: Kind) -> bool
     }
 }
 
-/// Returns whether a local is allowed where another kind is declared.
+/// Returns whether the kind of a local is allowed for a declared kind.
 #[tactic(auto, unfolding(crate::specs::Kinds::weakens_local))]
 pub(crate) fn weakens_local(schema: &Schema, kind: Kind, declared: Kind) -> bool
     ensures { result ≡ weakens_local schema.now kind declared }
@@ -80,7 +80,7 @@ fn all_locals_weaken(schema: &Schema, kinds: &[Kind], declared: &[Kind]) -> bool
     true
 }
 
-/// Returns whether a frame is allowed where another is declared.
+/// Returns whether a frame is allowed for a declared frame.
 #[tactic(auto, unfolding(crate::specs::Kinds::frame_weakens), using(crate::proofs::StackLemmas::pointwise_onto))]
 pub fn frame_weakens(schema: &Schema, frame: &Frame, declared: &Declared) -> bool
     ensures { result ≡ frame_weakens schema.now frame.now (frame_of declared.now) }
@@ -107,7 +107,7 @@ fn struck(schema: &Schema, deleted: ClassId, kind: Kind) -> Kind
     }
 }
 
-/// Changes every kind of a slice to what is known after a unit of class `deleted` was deleted.
+/// Changes every kind of a slice to the kind still known after a unit of class `deleted` was deleted.
 pub fn mark_stale(schema: &Schema, deleted: ClassId, kinds: &mut [Kind])
     ensures { kinds.new ≡ map (struck schema.now deleted) kinds.old }
 {

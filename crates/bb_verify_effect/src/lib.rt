@@ -1,11 +1,11 @@
 //! Frames, and the effect of each op on one.
 //!
-//! A frame is what the verifier knows before an op: the kind of each local and of each entry of the stack. `effect`
+//! A frame is the verifier's knowledge before an op: the kind of each local and of each entry of the stack. `effect`
 //! changes a frame as an op does, or returns the op's first flaw. `frame_weakens` decides whether a frame is allowed
-//! where another is declared.
+//! for a declared frame.
 //!
-//! bb_verify computes the frame of each place with it, bb_exec_lower reads these frames, and bb_diag computes them
-//! again for its messages. The compiler uses kinds, parts and `mark_stale`. Callers rely on: `effect` is exactly the
+//! bb_verify computes the frame of each op with it, bb_exec_lower reads these frames, and bb_diag computes them again
+//! for its messages. The compiler uses kinds, parts and `mark_stale`. Callers rely on: `effect` is exactly the
 //! definition of specs/Effect.antt, flaws included.
 #![tactic(auto)]
 

@@ -31,7 +31,7 @@ impl Model for Locals {
 }
 
 impl Locals {
-    /// Returns `count` locals of which nothing is known.
+    /// Returns `count` locals with unknown kinds.
     pub fn anything(count: u8) -> Locals
         requires { count ≤ LOCAL_LIMIT }
         ensures { result ≡ replicate count Any }
@@ -57,7 +57,7 @@ impl Locals {
         }
     }
 
-    /// Replaces the kinds by those of a declared frame.
+    /// Replaces the kinds by the kinds of a declared frame.
     pub(crate) fn take_on(&mut self, declared: &[Kind])
         requires { length declared.now ≤ LOCAL_LIMIT }
         ensures { self.new ≡ declared.now }
@@ -76,7 +76,7 @@ impl Locals {
         }
     }
 
-    /// Returns the kind of a local, or `None` if there is no such local.
+    /// Returns the kind of a local, or `None` if the local does not exist.
     pub fn get(&self, local: u8) -> Option<Kind>
         ensures { result ≡ slice_get self.now local }
     {
@@ -112,7 +112,7 @@ impl Locals {
         &self.kinds[..self.count]
     }
 
-    /// Changes every local's kind to what is known after a unit of class `deleted` was deleted.
+    /// Changes every local's kind to the kind still known after a unit of class `deleted` was deleted.
     pub fn mark_stale(&mut self, schema: &Schema, deleted: ClassId)
         ensures { self.new ≡ map (struck schema.now deleted) self.old }
     {

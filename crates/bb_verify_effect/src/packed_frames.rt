@@ -1,4 +1,4 @@
-//! The frames of all places, stored one after another. The pass over the places adds them; accepted codes keep them.
+//! The frames of all ops, stored one after another. The pass over the ops adds them; accepted codes keep them.
 
 ghost use Rattle.std.specs.Prelude.{◌≡◌, ◌<◌, ◌≤◌, ◌+◌, ◌++◌, ◌∷◌, [], IfOk, OnErr, OnOk, Some, length, reverse, slice_get};
 ghost use Rattle.std.specs.Vec.{vec_capacity, vec_len};
@@ -26,8 +26,9 @@ struct Span {
     stack: Stretch,
 }
 
-/// The frames of places, in the order of the places. Most frames differ from the one before by the top of the stack, so
-/// a frame takes room only for the kinds that are not stored where those of the last one begin.
+/// The frames of ops, in the order of the ops. Most frames differ from the one before by the top of the stack.
+/// Therefore a frame shares the kinds already stored from the start of the last frame's kinds, and needs space only for
+/// the others.
 #[derive(Drop)]
 pub struct PackedFrames {
     kinds: Vec<Kind>,
@@ -164,7 +165,7 @@ impl PackedFrames {
         Ok(())
     }
 
-    /// Returns a copy of the frame of a place.
+    /// Returns a copy of the frame of the op at an index.
     pub fn frame(&self, place: usize) -> Frame
         requires { place < length self.now }
         ensures { slice_get self.now place ≡ Some result }
@@ -172,7 +173,7 @@ impl PackedFrames {
         frame_in(self.kinds.as_slice(), self.spans[place])
     }
 
-    /// Returns a view of the frame of a place.
+    /// Returns a view of the frame of the op at an index.
     pub fn view(&self, place: usize) -> FrameView<'_>
         requires { place < length self.now }
         ensures { slice_get self.now place ≡ Some result }

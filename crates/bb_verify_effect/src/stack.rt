@@ -123,7 +123,7 @@ impl Stack {
         &self.kinds[..self.len]
     }
 
-    /// Changes every entry's kind to what is known after a unit of class `deleted` was deleted.
+    /// Changes every entry's kind to the kind still known after a unit of class `deleted` was deleted.
     pub fn mark_stale(&mut self, schema: &Schema, deleted: ClassId)
         ensures { self.new ≡ map (struck schema.now deleted) self.old }
     {

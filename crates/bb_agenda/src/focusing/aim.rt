@@ -39,7 +39,7 @@ impl<'a> Aim<'a> {
         }
     }
 
-    /// Returns what the focus adds to the ratings of the source at a place.
+    /// Returns what the focus adds to the ratings of the source at an index.
     pub(crate) fn part(&self, place: usize) -> i64
         ensures { result ≡ aimed_part place self.now }
     {

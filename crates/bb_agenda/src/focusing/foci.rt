@@ -60,7 +60,7 @@ impl Foci {
         }
     }
 
-    /// Returns the rating of an activation of the source at a place.
+    /// Returns the rating of an activation of the source at an index.
     pub(crate) fn rating(&self, setting: &Setting, place: usize, base: i64) -> i128
         ensures { result ≡ rating_at setting.now.schema setting.now.sources self.now place base }
     {
@@ -81,7 +81,7 @@ impl Foci {
         let _count = self.foci.len();
     }
 
-    /// Sets the focus of a unit and returns the one that it had. An error changes nothing.
+    /// Sets the focus of a unit and returns its former focus. An error changes nothing.
     pub(crate) fn set(&mut self, unit: UnitId, focus: Focus) -> Result<Option<Focus>, Memory>
         ensures ok { OnOk result (self.new ≡ fin.insert self.old unit focus) }
         ensures there { OnOk result (fin.get self.new unit ≡ Some focus) }

@@ -79,7 +79,7 @@ impl Setting {
         self.sources.as_slice().len()
     }
 
-    /// Returns whether a text is empty or the name of the source at a place.
+    /// Returns whether a text is empty or the name of the source at an index.
     pub(crate) fn has_source(&self, place: usize, name: &Text) -> bool
         ensures { result ≡ (is_empty name.now || is_source self.now.sources place name.now) }
     {
@@ -102,7 +102,7 @@ impl Setting {
         }
     }
 
-    /// Returns whether the source at a place is in an area.
+    /// Returns whether the source at an index is in an area.
     pub(crate) fn is_in(&self, place: usize, area: Area) -> bool
         ensures { result ≡ is_in self.now.schema self.now.sources place area }
     {

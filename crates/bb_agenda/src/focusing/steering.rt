@@ -1,5 +1,5 @@
-//! What activations are rated by: the foci, what they are matched with, and the sums of their weights. agenda.rt keeps
-//! it.
+//! The basis of ratings: the foci, the schema and sources that they are matched with, and the sums of their weights.
+//! agenda.rt keeps it.
 
 ghost use Rattle.std.specs.Prelude.{◌≡◌, pos, OnOk, OnErr, length, option_map, slice_get};
 ghost use Rattle.std.specs.Option.{option_map_or};
@@ -19,8 +19,8 @@ use bb_schema::UnitId;
 use std::alloc::Global;
 use std::marker::Model;
 
-/// The foci that are set, and what they are matched with. It keeps the total weight of the foci that match each source.
-/// So a rating scans no foci, and setting or removing a focus scans only the sources.
+/// The foci that are set, and the schema and sources that they are matched with. It keeps the total weight of the foci
+/// that match each source: a rating scans no foci, and setting or removing a focus scans only the sources.
 pub struct Steering {
     setting: Setting,
     foci: Foci,
@@ -117,7 +117,7 @@ impl Steering {
         }
     }
 
-    /// Returns the rating of an activation of the source at a place.
+    /// Returns the rating of an activation of the source at an index.
     pub fn rating_at(&self, place: usize, base: i64) -> i128
         ensures { let s = self.now in result ≡ rating_at s.setting.schema s.setting.sources s.foci place base }
     {

@@ -66,8 +66,8 @@ impl Board {
         created
     }
 
-    /// Sets a slot of a unit to a value that it may be set to, tells the unit's spaces, and notes the event, even if
-    /// the value is equal. `Memory`: this change or one before it was refused memory.
+    /// Sets a slot of a unit to a value that it may be set to, reports the value to the unit's spaces, and notes the
+    /// event, even if the value is equal. `Memory`: this change or one before it was refused memory.
     pub fn set(&mut self, unit: UnitId, slot: SlotId, value: Value) -> Result<(), Memory>
         requires { may_set self.old.world unit slot value ≡ Ok tt }
         ensures ok { OnOk result (self.new ≡
@@ -124,7 +124,7 @@ impl Board {
         changed
     }
 
-    /// Deletes a live unit with its parts: the units that owning slots lead to, their parts, and so on. Each, in
+    /// Deletes a live unit with its parts: the units that owning slots point to, their parts, and so on. Each, in
     /// ascending number, loses its links, leaves its spaces and is gone. Notes each link at both of its units, slot by
     /// slot in class order, then the spaces in ascending number, then the end. The numbers are never used again.
     /// `Memory`: this change or one before it was refused memory.
@@ -198,13 +198,13 @@ impl Board {
         self.state.take_notes(self.alloc).into_vec()
     }
 
-    /// Creates the first units of a JSON document on a fresh blackboard, sets the values that it gives them, links
+    /// Creates the initial units of a JSON document on a fresh blackboard, sets the values that it gives them, links
     /// them, lets them enter spaces, and notes all that. Otherwise returns the document's first fault and leaves the
-    /// blackboard as it was: `Json` if the text is not JSON, then `Shape` if the JSON has another form, then the first
+    /// blackboard unchanged: `Json` if the text is not JSON, then `Shape` if the JSON has another form, then the first
     /// fault of the units in their order, then of the links, then of the spaces. A unit's name is checked first, then
-    /// its class, then whether there is room, then its values; a link's units and slot by name, then the class of the
-    /// second unit; a space entry's unit and space by name, then whether the space takes the unit's class. `Memory` may
-    /// come at any point: this load or a change before it was refused memory.
+    /// its class, then whether there is capacity for it, then its values; a link's units and slot by name, then the
+    /// class of the second unit; a space entry's unit and space by name, then whether the space accepts the unit's
+    /// class. `Memory` may come at any point: this load or a change before it was refused memory.
     pub fn load(&mut self, text: &str) -> Result<(), UnitsFault>
         requires { is_fresh self.old ≡ true }
         ensures gives { Gives OutOfMemory (λ _. self.new) result (loaded self.old text.now) }

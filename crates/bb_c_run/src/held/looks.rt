@@ -1,4 +1,4 @@
-//! What a host sees of a held run: its blackboard, its agenda, what is due, and what its sources can cost.
+//! A host's view of a held run: its blackboard, its agenda, the native that is due, and its sources' possible costs.
 
 ghost use Rattle.std.specs.Prelude.{◌≡◌, IfErr, IfOk, length, option_and_then, option_map};
 ghost use Rattle.bb_c_run.specs.Costs.{creates_in, most_steps_in};
@@ -29,8 +29,8 @@ impl Held {
         Some(Value::Label(set, schema.label(set, label)?))
     }
 
-    /// Copies as much of the name of a unit's class as `to` has room for, and returns the number of bytes of the name.
-    /// `None` if there is no such unit, or once the run is finished.
+    /// Copies the name of a unit's class into `to`, up to its capacity, and returns the number of bytes of the name.
+    /// `None` if the unit does not exist, or once the run is finished.
     pub fn class(&self, unit: UnitId, to: &mut [u8]) -> Option<usize>
         ensures count { result ≡ option_map length (class_at self.now.running unit) }
         ensures filled { to.new ≡ filled_if (class_at self.now.running unit) to.old }
@@ -39,8 +39,8 @@ impl Held {
         Some(fill(looking::class(&view, unit)?.as_bytes(), to))
     }
 
-    /// Returns the number in an ordinary slot of a unit. `None` if there is no such unit or slot, if the slot holds
-    /// something else, or once the run is finished.
+    /// Returns the number in an ordinary slot of a unit. `None` if the unit or the slot does not exist, if the slot
+    /// holds something else, or once the run is finished.
     pub fn number(&self, unit: UnitId, slot: &str) -> Option<i64>
         ensures { result ≡ option_and_then number_of (value_at self.now.running unit slot.now) }
     {
@@ -61,8 +61,8 @@ impl Held {
         looking::interval(&self.running.as_ref()?.view(), unit, slot)
     }
 
-    /// Copies as much of the text in an ordinary slot of a unit as `to` has room for, and returns the number of bytes
-    /// of the text, or `None` like `number`.
+    /// Copies the text in an ordinary slot of a unit into `to`, up to its capacity, and returns the number of bytes of
+    /// the text, or `None` like `number`.
     pub fn text(&self, unit: UnitId, slot: &str, to: &mut [u8]) -> Option<usize>
         ensures count { result ≡ option_map length (option_and_then text_of (value_at self.now.running unit slot.now)) }
         ensures filled { to.new ≡ filled_if (option_and_then text_of (value_at self.now.running unit slot.now)) to.old }
@@ -80,15 +80,17 @@ impl Held {
         Some(fill(looking::label_name(&view, unit, slot)?.as_bytes(), to))
     }
 
-    /// Returns the kind of a slot of a unit. `None` if there is no such unit or slot, or once the run is finished.
+    /// Returns the kind of a slot of a unit. `None` if the unit or the slot does not exist, or once the run is
+    /// finished.
     pub fn kind(&self, unit: UnitId, slot: &str) -> Option<SlotKind>
         ensures { result ≡ kind_at self.now.running unit slot.now }
     {
         looking::kind(&self.running.as_ref()?.view(), unit, slot)
     }
 
-    /// Copies as many partners of a unit by a slot as `to` has room for, in order of addition, and returns their
-    /// number. `None` if there is no such unit or slot, or once the run is finished. `Memory`: memory ran out.
+    /// Copies the partners of a unit by a slot into `to`, in order of addition, up to its capacity, and returns the
+    /// number of partners. `None` if the unit or the slot does not exist, or once the run is finished. `Memory`: memory
+    /// ran out.
     pub fn partners(
         &self,
         unit: UnitId,
@@ -125,8 +127,8 @@ impl Held {
         }
     }
 
-    /// Copies as many numbers of the units of a class and of the classes below it as `to` has room for, ascending, and
-    /// returns how many units there are. `None` if there is no such class, or once the run is finished. `Memory`:
+    /// Copies the numbers of the units of a class and of the classes below it into `to`, ascending, up to its capacity,
+    /// and returns how many units there are. `None` if the class does not exist, or once the run is finished. `Memory`:
     /// memory ran out.
     pub fn units(&self, class: &str, to: &mut [UnitId]) -> Result<Option<usize>, Memory>
         ensures count { IfOk result (λ n. n ≡ option_map length (units_at self.now.running class.now)) }
@@ -139,8 +141,8 @@ impl Held {
         }
     }
 
-    /// Copies as many numbers of the units in a space as `to` has room for, ascending, and returns how many there are.
-    /// `None` if there is no such space, or once the run is finished. `Memory`: memory ran out.
+    /// Copies the numbers of the units in a space into `to`, ascending, up to its capacity, and returns how many units
+    /// there are. `None` if the space does not exist, or once the run is finished. `Memory`: memory ran out.
     pub fn members(&self, space: &str, to: &mut [UnitId]) -> Result<Option<usize>, Memory>
         ensures count { IfOk result (λ n. n ≡ option_map length (members_at self.now.running space.now)) }
         ensures filled { IfOk result (λ _. to.new ≡ filled_if (members_at self.now.running space.now) to.old) }
@@ -152,8 +154,8 @@ impl Held {
         }
     }
 
-    /// Copies as many numbers of the pending activations as `to` has room for, ascending, and returns how many there
-    /// are. `None` once the run is finished. `Memory`: memory ran out.
+    /// Copies the numbers of the pending activations into `to`, ascending, up to its capacity, and returns how many
+    /// activations are pending. `None` once the run is finished. `Memory`: memory ran out.
     pub fn pending(&self, to: &mut [u64]) -> Result<Option<usize>, Memory>
         ensures count { IfOk result (λ n. n ≡ option_map length (pending_in self.now.running)) }
         ensures filled { IfOk result (λ _. to.new ≡ filled_if (pending_in self.now.running) to.old) }
@@ -165,8 +167,8 @@ impl Held {
         }
     }
 
-    /// Returns the pending activation with a number and the number of bytes of its source's name, and copies as much of
-    /// the name as `to` has room for. `None` if it is not pending, or once the run is finished.
+    /// Returns the pending activation with a number and the number of bytes of its source's name, and copies the name
+    /// into `to`, up to its capacity. `None` if the activation is not pending, or once the run is finished.
     pub fn waits(&self, number: u64, to: &mut [u8]) -> Option<(Waits, usize)>
         ensures waits { result ≡ option_map (λ w. (w.0, length w.1)) (waits_in self.now.running number) }
         ensures filled { to.new ≡ filled_if (option_map (λ w. w.1) (waits_in self.now.running number)) to.old }
@@ -188,8 +190,8 @@ impl Held {
         Some(running.next()?.number)
     }
 
-    /// Copies as much of the blackboard's document of initial units as `to` has room for, and returns the number of
-    /// bytes of the document. `None` once the run is finished. `Memory`: memory ran out.
+    /// Copies the blackboard's document of initial units into `to`, up to its capacity, and returns the number of bytes
+    /// of the document. `None` once the run is finished. `Memory`: memory ran out.
     pub fn document(&self, to: &mut [u8]) -> Result<Option<usize>, Memory>
         ensures count { IfOk result (λ n. n ≡ option_map length (document_at self.now.running)) }
         ensures filled { IfOk result (λ _. to.new ≡ filled_if (document_at self.now.running) to.old) }
@@ -201,8 +203,8 @@ impl Held {
         }
     }
 
-    /// Returns the unit for which a native is due and the number of bytes of the native's name, and copies as much of
-    /// the name as `to` has room for. `None` if no native is due, or once the run is finished.
+    /// Returns the unit that a native is due for and the number of bytes of the native's name, and copies the name into
+    /// `to`, up to its capacity. `None` if no native is due, or once the run is finished.
     pub fn due(&self, to: &mut [u8]) -> Option<(UnitId, usize)>
         ensures due { result ≡ option_map (λ d. (d.0, length d.1)) (due_in self.now.running) }
         ensures filled { to.new ≡ filled_if (option_map (λ d. d.1) (due_in self.now.running)) to.old }

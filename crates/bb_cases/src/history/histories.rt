@@ -53,7 +53,7 @@ fn schema_of(alloc: Global, text: &str) -> Result<Schema, Fault> {
 }
 
 impl<'a> History<'a> {
-    /// Reads an input with moves below a line `%moves`. `Moves`: there is no such line, or the moves are refused.
+    /// Reads an input with moves below a line `%moves`. `Moves`: the line is missing, or the moves are refused.
     /// `Input`, `Schema`: the input has no sections, or its schema is refused.
     pub fn of_text(alloc: Global, text: &'a str) -> Result<History<'a>, Fault> {
         let (input, moves) = text.split_once(MOVES).ok_or(Fault::Moves)?;

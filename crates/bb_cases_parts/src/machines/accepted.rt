@@ -40,7 +40,7 @@ fn fits_event(board: &Board, class: ClassId, of: ClassId, entry: Entry) -> bool
 }
 
 /// Returns whether the units of an entry fit a part: the unit had the part's class, and there is a unit of an event
-/// exactly if the part answers an event, and it had the event's class.
+/// exactly if the part responds to an event, and it had the event's class.
 #[tactic(auto, using(crate::proofs::machines_lemmas::EntryLemmas::entry_fits_is))]
 pub(crate) fn entry_fits(board: &Board, part: Part, entry: Entry) -> bool
     ensures test { result ≡ entry_fits board.now.schema board.now.world part entry }

@@ -1,5 +1,5 @@
-//! The parts of sources that an entry fits. A table of runs does not say the parts of its codes, so all of these are
-//! tried.
+//! The parts of sources that an entry fits. A table of runs does not state the parts of its codes; all of these are
+//! therefore tried.
 
 use crate::machines::accepted::entry_fits;
 use bb_board::Board;

@@ -1,8 +1,8 @@
 //! Which class of a space has no slot that fits a dimension, and why. The notes on schemas call it.
 
 use crate::documents::entry::{entry_at, text_at};
-use bb_basis::Memory;
 use crate::write_phrase;
+use bb_basis::Memory;
 use bb_schema_classes::DocumentPlace;
 use serde_json::Value;
 

@@ -1,8 +1,8 @@
 //! The entry of a document at a location, and how messages call it: `link "parts" of class "thing"`. The notes on
 //! schemas and initial units begin with that.
 
-use bb_basis::Memory;
 use crate::write_phrase;
+use bb_basis::Memory;
 use bb_schema_classes::{DocumentPlace, ListItem, ListKey};
 use serde_json::Value;
 
@@ -41,7 +41,7 @@ pub(crate) fn list_of(place: DocumentPlace) -> Option<ListKey> {
     }
 }
 
-/// Appends what the entry at a location of a schema is called, as in `link "parts" of class "thing"`; nothing if the
+/// Appends a description of the entry at a location of a schema, as in `link "parts" of class "thing"`; nothing if the
 /// document has no name there.
 pub(crate) fn write_called(
     text: &mut String,

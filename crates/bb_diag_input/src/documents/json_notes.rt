@@ -1,8 +1,8 @@
-//! Where a document stops being JSON. `serde_json` reports no certain location, so it is searched for here. The notes
-//! on both documents call this.
+//! The location at which a document stops being JSON. `serde_json` reports no certain location. It is therefore
+//! searched for here. The notes on both documents call this.
 
-use bb_basis::Memory;
 use crate::{Section, fault_at, line_at, note_header, write_excerpt};
+use bb_basis::Memory;
 use serde_json::Value;
 use std::alloc::{AllocError, Global};
 
@@ -15,8 +15,8 @@ pub fn json_of(alloc: Global, document: &str) -> Result<Option<Value>, Memory> {
     }
 }
 
-/// Returns the line and column where a document stops being JSON. If its tokens are in order, the fault is a number that
-/// is too large or half a surrogate pair, and has no location.
+/// Returns the line and column at which a document stops being JSON. If its tokens are in order, the fault is a number
+/// that is too large or half a surrogate pair, and has no location.
 pub fn json_place(alloc: Global, document: &str) -> Result<Option<(u64, u64)>, Memory> {
     match fault_at(alloc, document)? {
         None => Ok(None),
@@ -24,7 +24,7 @@ pub fn json_place(alloc: Global, document: &str) -> Result<Option<(u64, u64)>, M
     }
 }
 
-/// Appends the line where a document stops being JSON, with a caret; nothing if that has no location.
+/// Appends the line in which a document stops being JSON, with a caret; nothing if that has no location.
 pub(crate) fn note_json(
     alloc: Global,
     text: &mut String,

@@ -1,8 +1,8 @@
 //! What is wrong with the form of an entry: a key that is unknown or missing, or a value of the wrong form. The notes
 //! on both documents call it.
 
-use bb_basis::Memory;
 use crate::{write_phrase, write_quoted};
+use bb_basis::Memory;
 use serde_json::Value;
 
 /// The required form of an entry.

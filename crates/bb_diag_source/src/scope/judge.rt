@@ -40,7 +40,7 @@ pub struct Judge<'a, 's> {
 }
 
 impl<'a, 's> Judge<'a, 's> {
-    /// Returns what is known before all sources.
+    /// Returns the judge before all sources.
     pub fn of(alloc: Global, schema: &'s Schema) -> Judge<'a, 's> {
         Judge {
             alloc,
@@ -52,7 +52,7 @@ impl<'a, 's> Judge<'a, 's> {
         }
     }
 
-    /// Returns what is known before a statement.
+    /// Returns the judge before a statement.
     pub fn before(
         alloc: Global,
         schema: &'s Schema,
@@ -228,7 +228,7 @@ impl<'a, 's> Judge<'a, 's> {
         class_of(self.kind_named(name))
     }
 
-    /// Returns the name of a class; empty if there is no such class.
+    /// Returns the name of a class; empty if the class does not exist.
     pub fn class_name(&self, class: ClassId) -> &'s str {
         self.schema.class_name(class).unwrap_or("")
     }

@@ -1,5 +1,5 @@
-//! The owning slots through which a deletion reaches units of another class. The message on a unit that may be gone
-//! names them.
+//! The path of owning slots from a deleted unit to units of another class. The message on a unit that may be gone names
+//! them.
 
 use bb_basis::Memory;
 use bb_compile_scope::ClassId;
@@ -43,8 +43,8 @@ fn slots_to_last(alloc: Global, reached: &[Reached]) -> Result<Vec<SlotId>, Memo
     Ok(slots)
 }
 
-/// Returns the owning slots through which deleting a unit of a class reaches units of another, from the deleted unit
-/// on. Empty if a unit can belong to both classes, or if no such slots lead there.
+/// Returns the path of owning slots from a deleted unit of a class to units of another, from the deleted unit on. Empty
+/// if a unit can belong to both classes, or if no such path exists.
 pub fn owning_path(
     alloc: Global,
     schema: &Schema,

@@ -51,7 +51,7 @@ pub fn until_end<'a, 't>(tokens: &'t [Token<'a>]) -> &'t [Token<'a>] {
     tokens.get(..len).unwrap_or(tokens)
 }
 
-/// Returns the text of a token of a list; empty if there is no such token or it is a text constant.
+/// Returns the text of a token of a list; empty if the token is missing or is a text constant.
 pub fn word_at<'a>(tokens: &[Token<'a>], index: usize) -> &'a str {
     match tokens.get(index) {
         Some(token) if token.kind == TokenKind::Text => "",

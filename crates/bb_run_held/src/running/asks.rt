@@ -12,7 +12,7 @@ use crate::running::Running;
 use bb_run::{Ask, Halt, NativeSource, Out, Page, Runner};
 
 impl<N: NativeSource> Running<N> {
-    /// Posts what happened outside: applies asks in order, as those of a native, and processes their events. Does
+    /// Posts what happened outside: applies asks in order, like the asks of a native, and processes their events. Does
     /// nothing if the run is over or a native is due. `Memory`, `Write`: the run is cut short.
     pub fn post<O: Out>(&mut self, asks: Vec<Ask>, out: &mut O) -> Result<Pause, Halt>
         requires open { O.has_failed out.old ≡ false }

@@ -1,5 +1,5 @@
-//! Indexes of named entries, which find an entry without a scan. `entries.rt` keeps them, and bb_schema makes one of the
-//! slots of a schema.
+//! Indexes of named entries, which find an entry without a scan. `entries.rt` keeps them, and bb_schema makes one of
+//! the slots of a schema.
 
 ghost use Rattle.std.specs.Prelude.{◌≡◌, ℕ, List, ◌∷◌, [], ◌++◌, length, map, is_some, IfOk, OnOk};
 ghost use Rattle.bb_schema_classes.specs.proving.Entries.{indexed_place, IsIndex};
@@ -65,8 +65,8 @@ fn keep_first<'a>(
     Ok(())
 }
 
-/// Returns the place of the first entry with each name. The index is ordered by name instead of hashed, so that no
-/// choice of names makes it slow.
+/// Returns the index of the first entry with each name. The map is ordered by name instead of hashed, so that no choice
+/// of names makes it slow.
 pub fn first_places<'a, T: NamedEntry>(
     alloc: Global,
     entries: &'a [T],
@@ -80,7 +80,7 @@ pub fn first_places<'a, T: NamedEntry>(
     Ok(places)
 }
 
-/// Returns the place of the first entry with a name, if there is one.
+/// Returns the index of the first entry with a name, if there is one.
 pub fn indexed_place(places: &BTreeMap<&str, usize>, name: &str) -> Option<usize>
     ensures { result ≡ indexed_place places.now name.now }
 {

@@ -1,5 +1,5 @@
-//! The limits by which `find` chooses its fast paths, each with its reason. This crate and bb_query use them. No result
-//! depends on one; `bench/rivals.py` shows their effect on times.
+//! The limits that `find` uses to choose its fast paths, each with its reason. This crate and bb_query use them. No
+//! result depends on one; `bench/rivals.py` shows their effect on times.
 //!
 //! The unit of cost is a step along an ordered set or map. A look-up among 65,535 members costs about fifty steps.
 
@@ -14,14 +14,14 @@ pub const CLOSE_NUMBERS: u64 = 4;
 /// once; with more marks for each unit, they cost as much as a look-up.
 pub const MARKED_NUMBERS: u64 = 512;
 
-/// The maximum number of steps, for each unit of a list, in a scan over the places that a test asks for. The scan may
-/// save that unit's look-up, which costs about fifty.
+/// The maximum number of steps, for each unit of a list, in a scan over the index keys that a test asks for. The scan
+/// may save that unit's look-up, which costs about fifty.
 pub const STEPS_TO_A_UNIT: usize = 32;
 
 /// The maximum number of candidates for a test in the first round. With this few, it is not worth searching for fewer.
 pub const FIRST_CANDIDATES: usize = 64;
 
-/// The factor by which the maximum grows in each round, if no test of a pattern had few enough. Steps wasted in earlier
+/// The growth factor of the maximum in each round, if no test of a pattern had few enough. Steps wasted in earlier
 /// rounds then amount to a third of the next maximum.
 pub const MORE_CANDIDATES: usize = 4;
 

@@ -1,4 +1,4 @@
-//! The index of a space: the places of all members, in order. `members.rt` keeps it consistent with the members.
+//! The index of a space: the keys of all members, in order. `members.rt` keeps it consistent with the members.
 
 ghost use Rattle.std.specs.Prelude.{OnOk};
 ghost use Rattle.bb_space.specs.index.proving.Places.{ArePut, AreIn, AreTaken};
@@ -9,7 +9,7 @@ use bb_pattern::DimValue;
 use bb_schema::UnitId;
 use std::collections::BTreeSet;
 
-/// Adds the places of a unit's values, except places of its values in `except`. An error may leave some of them in the
+/// Adds the keys of a unit's values, except keys of its values in `except`. An error may leave some of them in the
 /// index.
 pub fn put_all(
     places: &mut BTreeSet<Place>,
@@ -33,7 +33,7 @@ pub fn put_all(
     Ok(())
 }
 
-/// Removes the places of a unit's values, except places of its values in `except`.
+/// Removes the keys of a unit's values, except keys of its values in `except`.
 pub fn take_all(
     places: &mut BTreeSet<Place>,
     unit: UnitId,

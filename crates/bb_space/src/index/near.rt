@@ -1,4 +1,4 @@
-//! The units with places in the range of a test, and whether they are few. `members.rt` asks for them.
+//! The units with keys in the range of a test, and whether they are few. `members.rt` asks for them.
 
 ghost use Rattle.std.specs.Prelude.{◌≡◌, ℕ, ◌||◌, IfSome, IsTrue, OnOk, nat_le, length};
 ghost use Rattle.std.specs.List.Sorted.{IsStrictlySortedBy};
@@ -14,7 +14,7 @@ use bb_basis::Memory;
 use bb_schema::UnitId;
 use std::collections::BTreeSet;
 
-/// Appends the units whose places are in a range.
+/// Appends the units whose keys are in a range.
 pub(crate) fn collect(
     places: &BTreeSet<Place>,
     stretch: Stretch,
@@ -45,7 +45,7 @@ pub fn collect_near(
     }
 }
 
-/// Returns whether at most `most` places are in a range.
+/// Returns whether at most `most` keys are in a range.
 pub(crate) fn are_few(places: &BTreeSet<Place>, stretch: Stretch, most: usize) -> bool
     ensures few { result ≡ nat_le (length (places_in stretch places.now)) most }
 {
@@ -69,8 +69,8 @@ fn has_no_turned(places: &BTreeSet<Place>, leaf: &Leaf) -> bool
     }
 }
 
-/// Returns the number of units that pass a test, if the places determine it: for a label, or for `More` if no reversed
-/// interval is on the dimension. Visits the places of those that pass.
+/// Returns the number of units that pass a test, if the keys determine it: for a label, or for `More` if no reversed
+/// interval is on the dimension. Visits the keys of the units that pass.
 pub fn count_passing(places: &BTreeSet<Place>, leaf: &Leaf) -> Option<usize>
     ensures { IfSome result (λ n. IsCount leaf.now places.now n) }
 {

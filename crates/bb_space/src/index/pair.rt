@@ -1,5 +1,5 @@
-//! The units with places in the ranges of two tests together: one that asks for one low end or one label, and one of
-//! the next dimension. A place also contains its unit's value on that dimension, so these places are adjacent.
+//! The units with keys in the ranges of two tests together: one that asks for one low end or one label, and one of the
+//! next dimension. A key also contains its unit's value on that dimension; these keys are therefore adjacent.
 //! `members.rt` asks for them.
 
 ghost use Rattle.std.specs.Prelude.{◌≡◌, IfOk, IfSome};
@@ -61,9 +61,9 @@ fn near_both(
     Ok(found)
 }
 
-/// Returns units of places, ascending, including all whose values pass all of some tests. Uses the first two tests of
-/// neighbouring dimensions of which the first asks for one sort and key, and which no more than `most` values can pass
-/// together. Reversed intervals are not counted. `None` if there are no such two.
+/// Returns units of index keys, ascending, including all whose values pass all of some tests. Uses the first two tests
+/// of neighbouring dimensions such that the first of the two asks for one sort and key, and no more than `most` values
+/// can pass them together. Reversed intervals are not counted. `None` if no two such tests exist.
 pub fn few_by_two(
     alloc: Global,
     places: &BTreeSet<Place>,

@@ -1,4 +1,4 @@
-//! The place of a value in the index of a space. `index.rt` keeps the places of all members in order.
+//! The key of a value in the index of a space. `index.rt` keeps the keys of all members in order.
 
 ghost use Rattle.std.specs.Prelude.{◌≡◌, ◌<◌, true, length, slice_get};
 ghost use Rattle.bb_space.specs.index.proving.Places.{sort_of, key_of, next_of, place_of, is_at};
@@ -6,9 +6,9 @@ ghost use Rattle.bb_space.specs.index.proving.Places.{sort_of, key_of, next_of, 
 use bb_pattern::DimValue;
 use bb_schema::UnitId;
 
-/// The place of a unit's value on a dimension. The places of a dimension are adjacent: first intervals, by low end,
-/// then reversed intervals (high end below the low end), then labels, by set. Places with the same low end or label are
-/// ordered by their units' values on the next dimension.
+/// The index key of a unit's value on a dimension. The index keys of a dimension are adjacent: first intervals, by low
+/// end, then reversed intervals (high end below the low end), then labels, by set. Index keys with the same low end or
+/// label are ordered by their units' values on the next dimension.
 #[derive(Clone, Copy, PartialEq, Eq, PartialOrd, Ord)]
 pub struct Place {
     pub dim: usize,
@@ -18,7 +18,7 @@ pub struct Place {
     pub key: i64,
     /// 1 for every value, so that 0 comes before all values of a sort and key, and 2 after them.
     pub edge: u8,
-    /// The sort of the value on the next dimension. This, `next_key` and `next_edge` are 0 if there is none.
+    /// The sort of the value on the next dimension. This, `next_key` and `next_edge` are 0 if no such value exists.
     pub next_sort: u32,
     pub next_key: i64,
     pub next_edge: u8,
@@ -79,8 +79,8 @@ fn are_there(value: Option<DimValue>, other: Option<DimValue>) -> bool
     }
 }
 
-/// Returns whether other values are the same on a dimension and on the next one, so that one of them has the same place
-/// as the value. This is faster than comparing places, but `false` doesn't mean that the places differ.
+/// Returns whether other values are the same on a dimension and on the next one, so that one of them has the same index
+/// key as the value. This is faster than comparing index keys, but `false` doesn't mean that the index keys differ.
 pub(crate) fn stays(values: &[DimValue], dim: usize, others: &[DimValue]) -> bool
     requires { dim < length values.now }
     ensures { result ≡ true → (slice_get others.now dim ≡ slice_get values.now dim)
@@ -93,7 +93,7 @@ pub(crate) fn stays(values: &[DimValue], dim: usize, others: &[DimValue]) -> boo
 }
 
 impl Place {
-    /// Makes the place of a unit's value on a dimension, given its value on the next one.
+    /// Makes the index key of a unit's value on a dimension, given its value on the next one.
     pub(crate) fn of(dim: usize, value: DimValue, next: Option<DimValue>, unit: UnitId) -> Place
         ensures { result ≡ place_of dim unit value next }
     {
@@ -113,7 +113,7 @@ impl Place {
         }
     }
 
-    /// Returns whether this is the place of one of these values, one for each dimension in order.
+    /// Returns whether this is the index key of one of these values, one for each dimension in order.
     pub(crate) fn is_of(&self, values: &[DimValue]) -> bool
         ensures { result ≡ is_at values.now self.now }
     {

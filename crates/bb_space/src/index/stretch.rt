@@ -1,4 +1,4 @@
-//! Ranges of an index in which tests look for candidates. `near.rt`, `pair.rt` and `thin.rt` visit their places.
+//! Ranges of an index that tests search for candidates. `near.rt`, `pair.rt` and `thin.rt` visit their keys.
 
 ghost use Rattle.std.specs.Prelude.{◌≡◌, ◌<◌, ◌^◌, length};
 ghost use Rattle.std.specs.List.Sorted.{IsStrictlySortedBy};
@@ -13,15 +13,15 @@ use bb_pattern::Relation;
 use std::collections::BTreeSet;
 use std::collections::btree_set::Range;
 
-/// A range of an index: the places from its first up to its end, excluded. It is empty if the end comes before the
-/// first, as for a `Within` test of a reversed interval.
+/// A range of an index: the keys from its first up to its end, excluded. It is empty if the end comes before the first,
+/// as for a `Within` test of a reversed interval.
 #[derive(Clone, Copy)]
 pub(crate) struct Stretch {
     pub(crate) first: Place,
     pub(crate) end: Place,
 }
 
-/// Makes a place that no value has: before the values of a sort and key if the edge is 0, after them if it is 2.
+/// Makes an index key that no value has: before the values of a sort and key if the edge is 0, after them if it is 2.
 pub(crate) fn spot(dim: usize, sort: u32, key: i64, edge: u8) -> Place
     ensures { result ≡ spot dim sort key edge }
 {
@@ -132,7 +132,7 @@ impl Stretch {
         }
     }
 
-    /// Returns its places, in order.
+    /// Returns its keys, in order.
     pub(crate) fn places(self, index: &BTreeSet<Place>) -> Range<'_, Place>
         ensures stand { result ≡ places_in self index.now }
         ensures ordered { IsStrictlySortedBy place_cmp index.now.keys }

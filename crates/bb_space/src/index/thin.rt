@@ -1,5 +1,5 @@
-//! Drops units that can't pass tests, by a scan over the places that each test asks for. These are adjacent, so many of
-//! them are visited in the time of one look-up of a unit. `members.rt` calls it.
+//! Drops units that can't pass tests, by a scan over the index keys that each test asks for. These are adjacent; many
+//! of them are therefore visited in the time of one look-up of a unit. `members.rt` calls it.
 
 ghost use Rattle.std.specs.Prelude.{◌≡◌, ℕ, true, IfOk, IfSome, filter};
 ghost use Rattle.bb_space.specs.index.proving.Stretches.{stands_in, is_near};
@@ -14,7 +14,7 @@ use bb_schema::UnitId;
 use std::alloc::Global;
 use std::collections::BTreeSet;
 
-/// Marks of consecutive units, beginning with `first`, and the number of places that may still be visited.
+/// Marks of consecutive units, beginning with `first`, and the number of index keys that may still be visited.
 #[derive(Drop)]
 pub(crate) struct Marks {
     first: UnitId,

@@ -20,19 +20,19 @@ use bb_schema::Schema;
 
 /// States that a source is refused for the first fault of its text. Which faults a text has is defined by names and
 /// kinds only, without a code. A source without a fault compiles if its parts fit. A part fits if its ops, different
-/// texts, queries and loops, counted over the text, are within the limits of a code, there is room for its names, its
-/// numbers fit in 64 bits and those of its classes in 16, and its texts are UTF-8; the types of a text ensure the last
-/// three.
+/// texts, queries and loops, counted over the text, are within the limits of a code, there is space for its names, its
+/// numbers fit in 64 bits and the numbers of its classes in 16, and its texts are UTF-8; the types of a text ensure the
+/// last three.
 ///
 /// - `parts`: a part that has a code has no fault. The fault of a part that is refused is the first of its faults, with
-///   that place and that flaw; or it is `Limit` at the place where the part begins, because its code would be too
-///   large, and then the part does not fit.
+///   that location and that flaw; or it is `Limit` at the beginning of the part, because its code would be too large,
+///   and then the part does not fit.
 /// - `sources`: a source that compiles has no fault. The fault of a source that is refused, unless memory ran out, is
 ///   the first of its faults, or `Limit` at the beginning of one of its parts that does not fit.
-/// - `clean`: so a source without a fault is refused only for lack of memory, or because a part does not fit.
+/// - `clean`: therefore a source without a fault is refused only for lack of memory, or because a part does not fit.
 /// - `whole`: a source without a fault, all of whose parts fit, compiles, unless memory runs out.
-/// - `fitting`: each part of a source that compiles fits, if the source's numbers and texts are as above. So a source
-///   compiles exactly if it has no fault and its parts fit, unless memory runs out.
+/// - `fitting`: each part of a source that compiles fits, if the source's numbers and texts are as above. Therefore a
+///   source compiles exactly if it has no fault and its parts fit, unless memory runs out.
 /// - `exact`: the same for a part that has a code.
 pub fn refusals_are_judged(schema: &Schema)
     ensures parts { (part : Part) (place : Place) (block : BlockTree) →

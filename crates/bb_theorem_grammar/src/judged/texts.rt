@@ -9,18 +9,19 @@ ghost use Rattle.bb_theorem_grammar.specs.judged.Small.{IsJudgedAsRead};
 ghost use Rattle.bb_theorem_grammar.specs.judged.Sources.{is_text_spelled};
 
 use crate::judged::judged::refusals_are_judged;
-use bb_schema::Schema;
 use crate::parsed_texts_are_in_the_grammar;
+use bb_schema::Schema;
 
-/// States what `refusals_are_judged` means for the sources that `parse` returns for a text, whatever the text is: no
-/// condition of that law is left that an author could not see in the text.
+/// States what `refusals_are_judged` means for the sources that `parse` returns for a text, for any text: no condition
+/// of that law is left that an author could not see in the text.
 ///
 /// - `held`: their numbers fit in 64 bits, and their texts are UTF-8.
-/// - `spelled`: their names are valid, and they and their reactions have clauses. So none is refused for its spelling.
+/// - `spelled`: their names are valid, and they and their reactions have clauses. None is therefore refused for its
+///   spelling.
 /// - `judged`: therefore each of them compiles exactly if it has no fault and each of its parts is small, unless memory
 ///   runs out: if the part's ops, different texts, queries and loops, counted over the text, are within the limits of a
-///   code, and there is room for its names. If it is refused, it is for its first fault, or `Limit` at the beginning of
-///   a part that is not small.
+///   code, and there is space for its names. If it is refused, it is for its first fault, or `Limit` at the beginning
+///   of a part that is not small.
 pub fn texts_are_judged(schema: &Schema)
     ensures held { (text : List ℕ) (trees : List SourceText) →
         sources_of text ≡ Ok trees → list_all source_held trees ≡ true }

@@ -1,4 +1,4 @@
-//! The second phase of the verifier: where ops may jump.
+//! The second phase of the verifier: the targets of jumps.
 
 ghost use Rattle.std.specs.Prelude.{◌≡◌};
 ghost use Rattle.bb_code.specs.Each.{each};
@@ -70,7 +70,7 @@ fn jump_at(code: &Code, place: Place) -> Result<(), VerifyFault>
     }
 }
 
-/// Checks all jumps of a code. Returns the first fault, `Flaw::Jump` with its place.
+/// Checks all jumps of a code. Returns the first fault, `Flaw::Jump` with its op index.
 #[tactic(auto, unfolding(crate::specs::nesting::Jumps::jumps))]
 pub fn check_jumps(code: &Code) -> Result<(), VerifyFault>
     ensures { result ≡ jumps code.now }

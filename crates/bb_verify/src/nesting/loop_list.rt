@@ -1,5 +1,5 @@
-//! The list of the loops of a code: up to which place it ascends, and whether all heads are inside the code.
-//! `check_loops` calls it.
+//! The list of the loops of a code: the op index that ends its ascending part, and whether all heads are inside the
+//! code. `check_loops` calls it.
 
 ghost use Rattle.std.specs.Prelude.{◌≡◌, None, length};
 ghost use Rattle.bb_verify.specs.nesting.Loops.{lesser, lowest_outside, none_outside};
@@ -31,7 +31,7 @@ fn sorted_below(count: Place, loops: &[Loop]) -> Place
     sorted
 }
 
-/// Returns the place up to which the list of the loops of a code ascends.
+/// Returns the op index that ends the ascending part of the list of a code's loops, at most the number of ops.
 pub(crate) fn sorted_of(code: &Code) -> Place
     ensures { result ≡ sorted_below (length code.now.ops) code.now.loops }
 {

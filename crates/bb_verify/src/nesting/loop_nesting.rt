@@ -1,5 +1,5 @@
 //! Checks one loop of a code: its first and last op, and its nesting with the others. `check_loops` calls it for the
-//! loop with its head at a place.
+//! loop with its head at an op index.
 
 ghost use Rattle.std.specs.Prelude.{◌≡◌, filter};
 ghost use Rattle.bb_code.specs.Each.{each};
@@ -128,7 +128,8 @@ fn loop_due(code: &Code, l: Loop, around: &[Loop]) -> Result<(), Flaw>
     nests_around(code, l, around)
 }
 
-/// Checks the loop with its head at the place, if there is one: its first and last op, and its nesting with the others.
+/// Checks the loop with its head at an op index, if there is one: its first and last op, and its nesting with the
+/// others.
 pub(crate) fn heads_due(
     code: &Code,
     place: Place,

@@ -1,5 +1,5 @@
-//! The restrictions of loops on an op: where Next and Back may be, where jumps may go, and which locals may be stored
-//! to. `check_loops` calls it for the op at a place.
+//! The restrictions of loops on an op: the positions of Next and Back, the targets of jumps, and the locals that may be
+//! stored to. `check_loops` calls it for the op at an index.
 
 ghost use Rattle.std.specs.Prelude.{◌≡◌, ◌+◌, ◌<◌, Ok, length};
 ghost use Rattle.std.specs.List.{list_any};
@@ -85,7 +85,7 @@ fn keeps_around(
     keeps_locals(code, place as usize, local, around)
 }
 
-/// Checks the restrictions of loops on the op at a place.
+/// Checks the restrictions of loops on the op at an index.
 #[tactic(auto, unfolding(crate::specs::nesting::Loops::op_due, crate::specs::nesting::Jumps::check_target))]
 pub(crate) fn op_due(
     code: &Code,

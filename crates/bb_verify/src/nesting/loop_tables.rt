@@ -1,4 +1,4 @@
-//! Tables of the loops of a code, indexed by place. `check_loops` makes them before it scans the places.
+//! Tables of the loops of a code, by op index. `check_loops` makes them before it scans the ops.
 
 ghost use Rattle.std.specs.Prelude.{◌≡◌, ◌<◌, IfOk, length, max, set, slice_index, true};
 ghost use Rattle.bb_verify.specs.nesting.proving.LoopTables.{HasEnds, HasReach, IsDeepest, HasDeepest, HasHeads, HasTables};
@@ -16,9 +16,9 @@ use std::alloc::{AllocError, Global};
 /// ```
 #[derive(Drop)]
 pub(crate) struct LoopTables {
-    /// For each place, and the one past the last, whether a loop ends there.
+    /// For each op index, and the one past the last, whether a loop ends there.
     pub(crate) ends: Items<bool>,
-    /// At index `place + 1`: 1 plus the maximum head of the loops that hold the place, or 0. At index 0: 0.
+    /// At index `place + 1`: 1 plus the maximum head of the loops that hold the op at `place`, or 0. At index 0: 0.
     pub(crate) deepest: Items<usize>,
 }
 

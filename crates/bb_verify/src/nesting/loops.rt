@@ -1,5 +1,5 @@
-//! The third phase of the verifier: the loops of a code. It scans the places in order and keeps the loops that hold the
-//! place. Therefore its time is linear in the numbers of ops and loops.
+//! The third phase of the verifier: the loops of a code. It scans the ops in order and keeps the loops that hold the
+//! op. Therefore its time is linear in the numbers of ops and loops.
 
 ghost use Rattle.std.specs.Prelude.{◌≡◌, ℕ, ◌<◌, ◌≤◌, ◌++◌, IfOk, Ok, filter, length, map, nat_le, slice_get};
 ghost use Rattle.std.specs.Option.{option_to_list};
@@ -20,7 +20,7 @@ use bb_basis::Items;
 use bb_code::{Code, Flaw, Loop, Op, Place, VerifyFault};
 use std::alloc::{AllocError, Global};
 
-/// The maximum number of loops that hold a place.
+/// The maximum number of loops that hold an op.
 pub const NESTING_LIMIT: usize = 4;
 
 // Whether at most `NESTING_LIMIT` loops hold the place.
@@ -176,7 +176,7 @@ fn depths_below(
     Ok(Items::from(depths))
 }
 
-/// Returns the number of loops that hold each place. Fails with the first place at which the loops are not in order
+/// Returns the number of loops that hold each op. Fails with the first op index that has loops out of order
 /// (`Flaw::Loop`), or if memory runs out.
 pub fn check_loops(alloc: Global, code: &Code) -> Result<Items<usize>, VerifyFault>
     requires { jumps code.now ≡ Ok tt }
