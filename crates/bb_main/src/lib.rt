@@ -16,6 +16,7 @@ mod leaving;
 mod obeying;
 mod program_native;
 mod refusing;
+mod saying;
 mod served;
 mod serving;
 mod words;

@@ -17,12 +17,13 @@ ghost use Rattle.bb_main_input.specs.Refusals.{section_line};
 ghost use Rattle.bb_main.specs.Serve.{CutShort, Delivers, Serves, answer, answer_to_check};
 ghost use Rattle.bb_main.specs.Serve.{answer_to_compile, answer_to_meaning, done_status};
 ghost use Rattle.bb_main.specs.Serve.{limit_refusal, read_refusal, refusal, status_of};
-ghost use Rattle.bb_main.specs.declared.serving.TheConstants.{REFUSED, WRITE};
+ghost use Rattle.bb_main.specs.declared.serving.TheConstants.{LIMIT, REFUSED, WRITE};
 
 use crate::advising::advice_on;
 use crate::leaving::units_sections;
 use crate::program_native::program_natives;
 use crate::refusing::{refuse, refuse_input};
+use crate::saying::{say_advice, say_limit, say_report};
 use crate::served::Served;
 use bb_main_input::{
     INPUT_LIMIT, In, ReadFault, SectionFault, SectionReport, Sections, read_input,
@@ -38,6 +39,9 @@ use std::io::Write;
 /// The status of a refused input, and of refused words.
 pub(crate) const REFUSED: u8 = 2;
 
+/// The status if a run reached its limit.
+pub(crate) const LIMIT: u8 = 3;
+
 /// The status if memory ran out.
 pub(crate) const MEMORY: u8 = 5;
 
@@ -45,8 +49,9 @@ pub(crate) const MEMORY: u8 = 5;
 pub(crate) const WRITE: u8 = 6;
 
 /// Runs the program: `serve` with the options of the command line and the natives `tally` and `reaper`. After the line
-/// of a refusal it writes the reason to `errors`, and after the lines of a check the advice on its sources. Returns the
-/// exit status, regardless of what happens to `errors`.
+/// of a refusal it writes the reason to `errors`, after the lines of a check the advice on its sources, and after the
+/// trace of a run that reached its limit a note on that. Returns the exit status, regardless of what happens to
+/// `errors`.
 pub fn program<R: In, O: Out, E: Write>(
     alloc: Global,
     options: Options,
@@ -64,39 +69,22 @@ pub fn program<R: In, O: Out, E: Write>(
     ensures too_long { HasTaken (INPUT_LIMIT + 1) (R.remaining reader.old) (R.remaining reader.new)
         → Delivers limit_refusal (O.taken writer.old) (O.taken writer.new) result }
     ensures failed { O.has_failed writer.new ≡ (result == WRITE) }
-    // Something is written to `errors` only if the input is refused or checked.
-    ensures silent { result ≢ REFUSED → options.mode ≢ Mode.Check → errors.new ≡ errors.old }
+    // Something is written to `errors` only if the input is refused or checked, or its run reached the limit.
+    ensures silent { result ≢ REFUSED → result ≢ LIMIT → options.mode ≢ Mode.Check → errors.new ≡ errors.old }
 {
     let Ok(natives) = program_natives(alloc) else {
         return MEMORY;
     };
+    let limit = options.limit;
     let Served {
         status,
         report,
         advice,
     } = serve_with(alloc, options, natives, reader, writer);
-    say(report, errors);
+    say_report(report, errors);
     say_advice(advice, errors);
+    say_limit(status, limit, errors);
     status
-}
-
-// Writes the report on a refused input, if there is one. What cannot be written is dropped.
-fn say<E: Write>(report: Option<String>, errors: &mut E)
-    ensures { IsNone report → errors.new ≡ errors.old }
-{
-    let Some(report) = report else {
-        return;
-    };
-    let _ = writeln!(errors, "{report}");
-}
-
-// Writes the advice on a checked input, if there is any. What cannot be written is dropped.
-fn say_advice<E: Write>(advice: Option<String>, errors: &mut E)
-    ensures { IsNone advice → errors.new ≡ errors.old }
-{
-    if let Some(advice) = advice {
-        let _ = write!(errors, "{advice}");
-    }
 }
 
 /// Serves an input. Modes: `Run` runs it, with at most `limit` cycles and no activation rated below `floor`, and writes
@@ -340,7 +328,7 @@ pub(crate) fn status(finish: Finish) -> u8
 {
     match finish {
         Finish::Quiescence => 0,
-        Finish::Limit => 3,
+        Finish::Limit => LIMIT,
         Finish::Full => 4,
         Finish::Memory => MEMORY,
         Finish::Write => WRITE,
