@@ -15,7 +15,8 @@
      "slots": [{"name": "from", "kind": "int"}, {"name": "category", "kind": "label", "of": "category"},
                {"name": "to", "kind": "int"}]},
     {"name": "hypothesis",
-     "slots": [{"name": "span", "kind": "interval"}, {"name": "lost", "kind": "int"}, {"name": "score", "kind": "int"}]},
+     "slots": [{"name": "span", "kind": "interval"}, {"name": "lost", "kind": "int"},
+               {"name": "score", "kind": "int"}]},
     {"name": "word", "parent": "hypothesis",
      "slots": [{"name": "text", "kind": "text"}, {"name": "category", "kind": "label", "of": "category"},
                {"name": "rating", "kind": "int"}],
@@ -145,10 +146,11 @@
   ["SIMON 36", "words"], ["SPEECH 36", "words"], ["REDDY 38", "words"]
 ]}
 %sources
-// An utterance is understood as Hearsay-II did it: sources propose, extend and drop hypotheses at several levels. A word is
-// what may have been said at a time. A phrase is words that meet in time, on a path of the grammar from its left state to
-// its right one. A hypothesis has lost what the best words of each moment are rated above its own. Work on it is rated by
-// its score, 20 for each moment less what it has lost. The sentence that has lost least is the answer.
+// An utterance is understood as Hearsay-II did it: sources propose, extend and drop hypotheses at several levels. A
+// word is what may have been said at a time. A phrase is words that meet in time, on a path of the grammar from its
+// left state to its right one. A hypothesis has lost what the best words of each moment are rated above its own. Work
+// on it is rated by its score: 20 for each moment less what it has lost. The answer is the sentence that has lost
+// least.
 
 // Moment by moment, finds the best rating of a word, and what each word that ends there has lost.
 source measure on moment {
@@ -297,6 +299,7 @@ source compete on phrase {
     }
     decline;
   }
+  obviate on phrase when delete phrase; { answer it = ev; }
   do {
     let beaten = false;
     with phrase = it as phrase {
@@ -350,8 +353,8 @@ source understand on phrase {
   }
 }
 
-// Once there is a sentence, deletes the phrases that have lost more, and the islands with their focus: a better sentence
-// would grow from the beginning, too.
+// Once there is a sentence, deletes the phrases that have lost more, and the islands, and their focus is inactive: a
+// better sentence would grow from the beginning, too.
 source stop on utterance {
   when update utterance.lost;
   rate 9000;

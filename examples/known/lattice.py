@@ -111,7 +111,7 @@ def cut_short(given):
 def with_fragments(given):
     """The document with more words that are well heard: ANY can't begin a sentence, AND can't end one, LIST is late."""
     more = [Word("ANY", "quantity", 0, 9, 90), Word("AND", "joint", 33, 42, 90), Word("LIST", "list", 2, 4, 90)]
-    return with_words(given, [*lattice_of(given).words, *more])
+    return with_words(given, [*more, *lattice_of(given).words])
 
 
 def from_the_left(given):
