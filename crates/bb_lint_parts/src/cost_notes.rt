@@ -107,7 +107,7 @@ fn write_reaction(
     sites: &SourceSites<'_>,
 ) -> Result<(), Memory> {
     begin(text, name, part, sites.part(part))?;
-    text.push_str("an event asks it once for each activation of the source that waits\n")
+    text.push_str("an event asks it once for each pending activation of the source\n")
 }
 
 // Appends the further costs of a source's parts.

@@ -112,7 +112,7 @@ class Checks:
 
     def costs_are_told(self):
         """Costs are informations, and what parts cost is told by their words."""
-        said = "input: note[cost]: source want, obviate: an event asks it once for each activation of the source that waits\n"
+        said = "input: note[cost]: source want, obviate: an event asks it once for each pending activation of the source\n"
         with room() as at, Client(program=stand_in(Path(at), said, "want obviate ops 4 budget 4 5\nchecked 1\n")) as client:
             client.open(GARDEN)
             found = client.faults()
