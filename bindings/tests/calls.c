@@ -126,6 +126,7 @@ static int null_is_nothing(void)
     WANT(bb_text(&run, 2, BB_S("name"), NULL, 0, &len) == BB_OK && len == 0);
     WANT(bb_document(&run, NULL, 0, &len) == BB_OK && len > 100);
     WANT(bb_read(&run, NULL, 9, &len) == BB_OK && len == 0);
+    WANT(bb_skip(&run) == BB_OK && tells(&run, ""));
     WANT(bb_turn(&run) == BB_DUE);
     WANT(bb_due(&run, &unit, NULL, 0, &len) == BB_OK && unit == 1 && len == strlen("state"));
     bb_close(&run);
@@ -143,7 +144,7 @@ static int a_handle_without_a_run(void)
         WANT(bb_post(&run) == BB_MISUSE && bb_answer(&run) == BB_MISUSE && bb_discard(&run) == BB_MISUSE);
         WANT(bb_ask_delete(&run, 1) == BB_MISUSE && bb_ask_new(&run, BB_S("box")) == BB_MISUSE);
         WANT(bb_class(&run, 1, NULL, 0, &len) == BB_MISUSE && bb_document(&run, NULL, 0, &len) == BB_MISUSE && len == 7);
-        WANT(bb_read(&run, NULL, 0, &len) == BB_MISUSE && len == 0);
+        WANT(bb_read(&run, NULL, 0, &len) == BB_MISUSE && len == 0 && bb_skip(&run) == BB_MISUSE);
         WANT(bb_made(&run) == 0 && bb_next(&run) == 0);
         len = 7;
         bb_close(&run);

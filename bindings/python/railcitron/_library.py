@@ -80,6 +80,7 @@ CALLS: dict[str, tuple[Any, list[Any]]] = {
     "bb_most_steps": (c_uint8, [_RUN, c_uint32, POINTER(c_uint64)]),
     "bb_creates": (c_uint8, [_RUN, c_char_p]),
     "bb_read": (c_uint8, [_RUN, *_BYTES, POINTER(c_size_t)]),
+    "bb_skip": (c_uint8, [_RUN]),
     "bb_finish": (c_uint8, [_RUN]),
     "bb_close": (None, [_RUN]),
 }

@@ -7,6 +7,7 @@ import os
 from collections.abc import Iterator
 from typing import Literal
 
+from . import _library as calls
 from . import notes
 from ._asks import as_bytes, as_unit, within
 from ._faults import Misuse
@@ -32,6 +33,12 @@ class Looks(Held):
     def read(self) -> str:
         """Returns what the run told since it was read last. Raises `Misuse` if there is no run."""
         return self._take_told()
+
+    def skip(self) -> None:
+        """Discards what the run told since it was read last, which is kept in memory until then. Raises `Misuse` if there is no run."""
+        if self._call("bb_skip") == calls.MISUSE:
+            raise Misuse("there is no run")
+        self._told = []
 
     def lines(self) -> Iterator[str]:
         """Iterates over the lines that the run told since it was read last, without their ends. They are read at once.

@@ -66,6 +66,10 @@ class Library:
         length._obj.value = len(piece)
         return 0
 
+    def bb_skip(self, run):
+        self.trace.clear()
+        return 0 if run._obj.is_open else 9
+
     def bb_due(self, run, unit, name, size, length):
         if not run._obj.is_open:
             return 9
@@ -195,6 +199,13 @@ class Runs(unittest.TestCase):
             self.assertEqual(run.read(), 'say "grün"\n')
             self.assertEqual(run.finish(), "")
             self.assertEqual(run.ending, "limit")
+
+    def test_what_is_skipped_is_not_read(self):
+        with railcitron.Run(b"", library=Library([b"post\n"])) as run:
+            run.skip()
+            self.assertEqual(run.read(), "")
+        with self.assertRaises(railcitron.Misuse):
+            run.skip()
 
     def test_lines(self):
         pieces = ['say "a\u2028b\x85c"\nsay "'.encode(), b'd"\n', b"", b"post\ncut"]

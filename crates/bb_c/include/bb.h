@@ -114,7 +114,7 @@ typedef struct bb_run {
 enum {
     BB_OK = 0,      /* the call was made */
     BB_NONE = 1,    /* nothing was found */
-    BB_RESTING = 0, /* the trace has quiescence, which changed nothing: only a post continues the run */
+    BB_RESTING = 0, /* the trace has quiescence, and nothing can be chosen: only a post continues the run */
     BB_GOING = 3,   /* something can be chosen, or a turn reports quiescence */
     BB_DUE = 8,     /* a native is due: only `bb_answer` continues the run */
     BB_MISUSE = 9
@@ -246,8 +246,10 @@ uint8_t bb_creates(bb_run *run, uint8_t *creates);
 
 /* Reads the part of the trace that was not read yet: as many bytes as `to_len` allows are written into `to`, and their
    number into `len`, which is 0 once everything is read. Each byte is read once. After each move, all that it added to
-   the trace can be read. */
+   the trace can be read. A run keeps in memory what was not read: a host that does not need it calls `bb_skip` after
+   each move, which discards it. */
 uint8_t bb_read(bb_run *run, uint8_t *to, size_t to_len, size_t *len);
+uint8_t bb_skip(bb_run *run);
 
 /* Ends a run, and adds its end to the trace. It makes no cycle: if nothing can be chosen, it reports quiescence, unless
    that was reported already; if something can be chosen then, the run ends by its limit. Returns how the run ended:

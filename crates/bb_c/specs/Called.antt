@@ -137,6 +137,15 @@ abbrev pub Reads : (old new : Option Held) → (to given : List ℕ) → (len st
 Reads None new to given len status = (new ≡ None) × (given ≡ to) × (len ≡ 0) × (status ≡ MISUSE)
 Reads (Some h) new to given len status = Gives h new to given len × (status ≡ OK)
 
+-- the unread trace was discarded, and nothing else changed
+abbrev pub Skipped : Held → Option Held → Type 0
+Skipped h None = ⊥
+Skipped h (Some k) = (unread k.trace ≡ []) × (k.running ≡ h.running) × (k.asks ≡ h.asks)
+
+abbrev pub Skips : (old new : Option Held) → (status : ℕ) → Type 0
+Skips None new status = (new ≡ None) × (status ≡ MISUSE)
+Skips (Some h) new status = Skipped h new × (status ≡ OK)
+
 -- the number of the next new unit, or 0
 abbrev pub next_of : Option Held → ℕ
 next_of None = 0

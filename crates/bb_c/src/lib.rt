@@ -28,7 +28,7 @@ pub use asks::{
 pub use looking::{bb_bool, bb_class, bb_int, bb_interval, bb_kind, bb_label, bb_links, bb_text};
 pub use moves::{bb_advance, bb_answer, bb_close, bb_finish, bb_open, bb_post, bb_turn};
 pub use overview::{bb_creates, bb_document, bb_due, bb_members, bb_most_steps, bb_units};
-pub use reading::{bb_made, bb_next, bb_read};
+pub use reading::{bb_made, bb_next, bb_read, bb_skip};
 pub use refusing::{bb_explain, bb_refusal};
 pub use run::Run;
 pub use serving::{bb_serve, bb_version};

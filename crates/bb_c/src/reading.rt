@@ -1,7 +1,7 @@
 //! The calls that read the trace of a run and its counters.
 
 ghost use Rattle.std.specs.Prelude.{◌≡◌};
-ghost use Rattle.bb_c.specs.Called.{Reads, made_of, next_of};
+ghost use Rattle.bb_c.specs.Called.{Reads, Skips, made_of, next_of};
 
 use crate::run::Run;
 use crate::status::{MISUSE, OK};
@@ -18,6 +18,19 @@ pub extern "C" fn bb_read(alloc: Global, run: &mut Run, to: &mut [u8], len: &mut
         return MISUSE;
     };
     *len = held.read(to);
+    run.put(held);
+    OK
+}
+
+/// Discards the unread trace. Returns 0, or 9 if the run does not exist.
+#[unsafe(no_mangle)]
+pub extern "C" fn bb_skip(alloc: Global, run: &mut Run) -> u8
+    ensures { Skips run.old.sitting run.new.sitting result }
+{
+    let Some(mut held) = run.take(alloc) else {
+        return MISUSE;
+    };
+    held.skip();
     run.put(held);
     OK
 }

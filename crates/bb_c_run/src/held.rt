@@ -289,6 +289,14 @@ impl Held {
     {
         self.trace.read(to)
     }
+
+    /// Discards the unread trace, for hosts that do not need it.
+    pub fn skip(&mut self)
+        ensures none { unread self.new.trace ≡ [] }
+        ensures kept { (self.new.running ≡ self.old.running) × (self.new.asks ≡ self.old.asks) }
+    {
+        self.trace.skip();
+    }
 }
 
 impl Drop for Held {

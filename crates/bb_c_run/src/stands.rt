@@ -10,7 +10,7 @@ use bb_run_held::Pause;
 pub enum Stands {
     /// The run can continue: something can be chosen, or a turn emits quiescence.
     Going,
-    /// Quiescence was emitted and changed nothing: only a post continues the run.
+    /// Quiescence was emitted, and nothing can be chosen after it: only a post continues the run.
     Resting,
     /// A native is due: only an answer for it continues the run.
     Due,

@@ -44,6 +44,15 @@ impl Trace {
         }
         count
     }
+
+    /// Discards the unread bytes.
+    pub(crate) fn skip(&mut self)
+        ensures none { drop self.new.read self.new.bytes.items ≡ [] }
+        ensures same { self.new.failed ≡ self.old.failed }
+    {
+        self.bytes.clear();
+        self.read = 0;
+    }
 }
 
 impl Out for Trace {
