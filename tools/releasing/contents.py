@@ -17,7 +17,7 @@ COPIED = {
     "crates/bb_cases": ["crates/bb_cases/data", "crates/bb_cases/stdout"],
     "examples": ["examples"],
     "editors": ["editors"],
-    "tools": ["tools/see", "tools/seeing", "tools/workbench", "tools/cases", "tools/casing"],
+    "tools": ["tools/see", "tools/seeing", "tools/workbench", "tools/explain", "tools/messages", "tools/cases", "tools/casing"],
     "include": ["crates/bb_c/include/bb.h"],
     "python": ["examples/c/host.py", "bindings/python/pyproject.toml", "bindings/python/README.md", "bindings/python/railcitron"],
     "python/examples": ["bindings/python/examples/press.py", "bindings/python/examples/scale.py"],
@@ -26,6 +26,7 @@ COPIED = {
     "share/bash-completion/completions": ["tools/releasing/completion/bb", "tools/releasing/completion/bbasm"],
     "share/zsh/site-functions": ["tools/releasing/completion/_bb"],
 }
+COPIED["share/man/man1"] += ["tools/releasing/man/railcitron-explain.1", "tools/releasing/man/railcitron-messages.1"]
 COPIED["share/man/man5"] += ["tools/releasing/man/railcitron-moves.5", "tools/releasing/man/railcitron-code.5"]
 # Checks and builds need a checkout.
 LEFT_OUT = shutil.ignore_patterns("__pycache__", "*.pyc", "check", "try", "tests")
@@ -41,6 +42,8 @@ to install it.
     ./test                                                                  runs the cases by these programs, in ten seconds
     bin/bb < examples/desk.bb | tools/see --input examples/desk.bb > run.html    makes a page of a run (Python 3.10)
     tools/workbench examples/hello.bb                                       a page to write inputs in
+    tools/explain compile 3                                                 what the pages say of a message
+    bin/bb check < examples/hello.bb 2>&1 >costs | tools/messages           messages as lines of JSON
     man -l share/man/man1/bb.1                                              the words of the program; man5 has the formats
     cc -Iinclude examples/c/host.c lib/libbb.a -o host                      a host in C
     python3 python/host.py lib/libbb.so < examples/hello.bb                 a host in Python

@@ -56,12 +56,15 @@ PLACES = {
     "tools": "usr/share/railcitron/tools",
     "editors": "usr/share/railcitron/editors",
 }
-# Links, so that bb has its other name, and the tests find programs and examples where they look.
+# Links, so that bb has its other name, and tests and tools find programs, examples and pages where they look.
 LINKS = {
     "usr/bin/railcitron": "bb",
     "usr/bin/railcitron-server": "../share/railcitron/editors/server/railcitron-server",
+    "usr/bin/railcitron-explain": "../share/railcitron/tools/explain",
+    "usr/bin/railcitron-messages": "../share/railcitron/tools/messages",
     "usr/share/man/man1/railcitron.1": "bb.1",
     "usr/share/bash-completion/completions/railcitron": "bb",
+    "usr/share/railcitron/docs": "../doc/railcitron/docs",
     "usr/share/railcitron/examples": "../doc/railcitron/examples",
     "usr/share/railcitron/bin/bb": "../../../bin/bb",
     "usr/share/railcitron/bin/bbasm": "../../../bin/bbasm",

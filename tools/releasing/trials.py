@@ -221,6 +221,16 @@ def try_server(folder):
         raise Failed(f"the language server says {told!r}")
 
 
+def try_messages(folder):
+    """A message of the program is explained, and becomes a line of JSON."""
+    given = (folder / "examples/hello.bb").read_text().replace("say ", "say nothing_here, ", 1)
+    told = subprocess.run([folder / "bin/bb", "check"], input=given, text=True, capture_output=True).stderr
+    entry = run(folder / "tools/explain", input=told, text=True, stdout=subprocess.PIPE).stdout
+    line = run(folder / "tools/messages", input=told, text=True, stdout=subprocess.PIPE).stdout
+    if not entry.startswith("compile 1\n") or json.loads(line)["code"] != "compile 1":
+        raise Failed(f"the program writes {told!r}, of which tools/explain says {entry!r} and tools/messages {line!r}")
+
+
 def try_pages(folder):
     """The viewer makes a page, and the man pages are in order for groff."""
     with open(folder / "examples/desk.trace") as trace:
@@ -245,5 +255,6 @@ def try_all(folder):
         try_hosts(folder, room)
         try_exports(folder)
         try_server(folder)
+        try_messages(folder)
         try_pages(folder)
         try_sums(folder)

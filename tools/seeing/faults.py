@@ -1,12 +1,14 @@
 """Reads what the program says on standard error of an input: faults, warnings and costs, with their places."""
 
-import re
+import sys
 from dataclasses import dataclass, field
+from pathlib import Path
 
-# `input:LINE:COLUMN: error[NUMBER]: ..`, of which a place may lack its column, or both.
-PLACED = re.compile(
-    r"input(?::(?P<line>\d+)(?::(?P<column>\d+))?)?: (?P<kind>error|warning|note)\[(?P<number>[^\]]*)\]: (?P<text>.*)"
-)
+# Last, as that folder has modules of the same names as this one.
+sys.path.append(str(Path(__file__).resolve().parent.parent.parent / "editors/server"))
+from messages import SEVERITIES, said_in  # noqa: E402
+
+KINDS = {number: word for word, number in SEVERITIES.items()}
 
 
 @dataclass(slots=True)
@@ -23,13 +25,4 @@ class Fault:
 
 def faults_of(told: str) -> list[Fault]:
     """The messages, each with the notes below it."""
-    found: list[Fault] = []
-    for line in told.split("\n"):
-        placed = PLACED.fullmatch(line)
-        if placed:
-            its = placed.groupdict()
-            places = int(its["line"] or 0), int(its["column"] or 0)
-            found.append(Fault(its["kind"], its["text"], *places, its["number"]))
-        elif line.startswith("  | ") and found:
-            found[-1].notes.append(line[4:])
-    return found
+    return [Fault(KINDS[it.severity], it.told, it.line, it.column, it.code, it.below) for it in said_in(told)]
