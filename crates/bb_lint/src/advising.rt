@@ -8,7 +8,7 @@ use crate::mistaken::source_names;
 use crate::rating::{any_makes_focus, stays_below};
 use crate::repeating::{is_repeated, write_repeated};
 use crate::reserved::write_reserved;
-use crate::sentence::{Part, write_code, write_empty_finds, write_mistakes};
+use crate::sentence::{Part, write_code, write_empty_finds, write_mistakes, write_vain_links};
 use crate::source_sentence::{write_clauses, write_never_rates, write_rating, write_restless};
 use crate::triggered::{is_restless, never_rates};
 use bb_basis::{Memory, Names};
@@ -106,6 +106,7 @@ fn write_codes(
             write_code(alloc, text, schema, &known.admitted, part)?;
             write_empty_finds(text, schema, &known.possible, part)?;
             write_mistakes(text, schema, &known.names, part)?;
+            write_vain_links(alloc, text, schema, part)?;
         }
     }
     Ok(())

@@ -11,6 +11,7 @@
 mod advising;
 mod finds;
 mod first_foci;
+mod linked;
 mod mistaken;
 mod rating;
 mod repeating;

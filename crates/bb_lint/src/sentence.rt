@@ -4,6 +4,7 @@ ghost use Rattle.std.specs.Prelude.{◌<◌, length};
 ghost use Rattle.bb_lint.specs.proving.Admitted.{AreAdmitted};
 
 use crate::finds::Admitted;
+use crate::linked::vain_links;
 use crate::mistaken::{Mistake, mistake_at};
 use crate::vain::held_class;
 use crate::warning::{Warning, code_warnings};
@@ -203,6 +204,26 @@ pub(crate) fn write_mistakes(
             write_mistake(text, mistake)?;
             site.end(text, subject)?;
         }
+    }
+    Ok(())
+}
+
+/// Appends the links of a code that exist where it makes them.
+pub(crate) fn write_vain_links(
+    alloc: Global,
+    text: &mut String,
+    schema: &Schema,
+    part: Part<'_>,
+) -> Result<(), Memory> {
+    let links = vain_links(alloc, schema, part.checked.code())?;
+    for link in &links {
+        let site = part.site(link.place);
+        let subject = part.subject("warning[link]");
+        let slot = schema.slot_name(link.slot).unwrap_or("?");
+        site.begin(text, subject)?;
+        write!(text, "the loop is over the units of {slot}, ")?;
+        text.push_str("so the two are linked already, and this does nothing")?;
+        site.end(text, subject)?;
     }
     Ok(())
 }

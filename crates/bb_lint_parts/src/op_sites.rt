@@ -1,15 +1,15 @@
-//! The locations, in the text of a part, of the ops that a search, a test of a unit or a `set` compiles to. Warnings
-//! and costs look up ops one by one.
+//! The locations, in the text of a part, of the ops that a search, a test of a unit, a `set` or a `link` compiles to.
+//! Warnings and costs look up ops one by one.
 //!
 //! The compiler emits ops in the order of the text: each search is the query with its number, each `with .. as` begins
-//! one test, and each `set` becomes one `Set`. The locations of each sort therefore match its ops in order. They are
-//! used only if the numbers of locations and ops are equal.
+//! one test, and each `set` becomes one `Set`, each `link` one `Relink`. The locations of each sort therefore match its
+//! ops in order. They are used only if the numbers of locations and ops are equal.
 
 use crate::outline::PartOutline;
 use crate::site::{Origin, Site};
 use crate::spot::Spot;
 use bb_basis::Memory;
-use bb_code::{Code, Op, Place};
+use bb_code::{Code, LinkChange, Op, Place};
 use std::alloc::Global;
 
 /// Where the ops of a code are.
@@ -21,11 +21,12 @@ pub struct OpSites<'a> {
     spots: Vec<Option<Spot>>,
 }
 
-// The number of tests and `Set`s among the ops so far.
+// The number of tests, `Set`s and links made among the ops so far.
 #[derive(Clone, Copy)]
 struct Passed {
     tests: usize,
     sets: usize,
+    links: usize,
     is_alive: bool,
 }
 
@@ -34,6 +35,7 @@ impl Passed {
         Passed {
             tests: 0,
             sets: 0,
+            links: 0,
             is_alive: false,
         }
     }
@@ -44,6 +46,7 @@ impl Passed {
             Op::Alive(_) => self.tests = self.tests.saturating_add(1),
             Op::As(_, _) if !self.is_alive => self.tests = self.tests.saturating_add(1),
             Op::Set(_) => self.sets = self.sets.saturating_add(1),
+            Op::Relink(LinkChange::Link, _) => self.links = self.links.saturating_add(1),
             _ => {}
         }
         self.is_alive = matches!(op, Op::Alive(_));
@@ -79,6 +82,7 @@ fn spots_of(
     let finds = if_all(part.finds.as_slice(), code.queries().len());
     let tests = if_all(part.tests.as_slice(), all.tests);
     let sets = if_all(part.sets.as_slice(), all.sets);
+    let links = if_all(part.links.as_slice(), all.links);
     let mut spots = Vec::new(alloc);
     let mut passed = Passed::none();
     for op in code.ops() {
@@ -87,6 +91,7 @@ fn spots_of(
             Op::Find(query) => finds.get(query as usize).copied(),
             Op::Alive(_) | Op::As(_, _) => last_of(tests, passed.tests),
             Op::Set(_) => last_of(sets, passed.sets),
+            Op::Relink(LinkChange::Link, _) => last_of(links, passed.links),
             _ => None,
         };
         spots.push(spot)?;

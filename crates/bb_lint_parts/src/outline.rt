@@ -28,6 +28,8 @@ pub(crate) struct PartOutline<'a> {
     pub(crate) tests: Vec<Spot>,
     /// The value of each `set`.
     pub(crate) sets: Vec<Spot>,
+    /// Each `link`.
+    pub(crate) links: Vec<Spot>,
 }
 
 impl<'a> Outline<'a> {
@@ -75,6 +77,7 @@ impl<'a> PartOutline<'a> {
             finds: Vec::new(alloc),
             tests: Vec::new(alloc),
             sets: Vec::new(alloc),
+            links: Vec::new(alloc),
         }
     }
 }

@@ -143,6 +143,7 @@ impl<'a> Walk<'a> {
                 self.setting = Setting::Begun;
                 Ok(())
             }
+            "link" => self.note_link(Spot::of(token)),
             _ => Ok(()),
         }
     }
@@ -179,6 +180,14 @@ impl<'a> Walk<'a> {
     fn note_set(&mut self, spot: Spot) -> Result<(), Memory> {
         if let Some(part) = self.outline.parts.last_mut() {
             part.sets.push(spot)?;
+        }
+        Ok(())
+    }
+
+    // Records a `link`.
+    fn note_link(&mut self, spot: Spot) -> Result<(), Memory> {
+        if let Some(part) = self.outline.parts.last_mut() {
+            part.links.push(spot)?;
         }
         Ok(())
     }
