@@ -9,7 +9,7 @@ ghost use Rattle.bb_main.specs.declared.serving.TheConstants.{REFUSED, WRITE};
 
 use crate::served::Served;
 use crate::serving::{MEMORY, REFUSED, WRITE};
-use bb_diag::{Input, brief, report};
+use bb_diag::{Input, brief, report, report_input};
 use bb_main_input::Sections;
 use bb_shell::{InputFault, Memory, NativeSource, Out, close_each, put_all};
 use std::alloc::Global;
@@ -108,25 +108,10 @@ fn answer<D: Display + Drop, O: Out>(alloc: Global, line: &str, reason: D, write
     }
 }
 
-// Returns the line of the input that the note below a reason begins with; empty if there is none.
-fn noted_line(reason: &str) -> &str {
-    match reason.split_once("\n  | line ") {
-        Some((_, note)) => note.split_once(": ").map_or("", |(line, _)| line),
-        None => "",
-    }
-}
-
-// Returns the message on an input that has no sections: its line if it is known, the words of the refusal as editors
-// read them, and the reason.
+// Returns the message on an input that has no sections.
 fn message<D: Display + Drop>(alloc: Global, line: &str, reason: D) -> Result<String, Memory> {
     let said = reason.to_string(alloc)?;
-    let words = line.strip_prefix("refused ").unwrap_or(line);
-    let said = said.as_str();
-    let said = said.strip_prefix("input: ").unwrap_or(said);
-    match noted_line(said) {
-        "" => format!(in alloc; "input: error[{words}]: {said}"),
-        line => format!(in alloc; "input:{line}: error[{words}]: {said}"),
-    }
+    report_input(alloc, line, said.as_str())
 }
 
 /// Writes a line, which needs no memory, and returns `status` unless the output fails.
