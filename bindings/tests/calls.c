@@ -156,7 +156,101 @@ static int a_handle_without_a_run(void)
     return 0;
 }
 
+/* A log, as a host keeps it. */
+typedef struct {
+    uint8_t text[512];
+    size_t len;
+} history;
+
+/* Whether a move has this text, also if it is asked for its length alone. It is appended to the log. */
+static int keeps(history *log, bb_run *run, uint8_t step, uint32_t cycles, const char *wanted)
+{
+    size_t len = 0, whole = 0;
+    uint8_t *at = log->text + log->len;
+    if (bb_history(run, step, cycles, NULL, 9, &whole) != BB_OK || whole != strlen(wanted)
+        || bb_history(run, step, cycles, at, sizeof log->text - log->len, &len) != BB_OK || len != whole)
+        return 0;
+    log->len += len;
+    return memcmp(at, wanted, len) == 0;
+}
+
+/* Whether the history of this log is refused, or the input is, with this line. There is no run then. */
+static int refuses(const char *data, const char *natives, const char *log, uint64_t wanted)
+{
+    bb_run run = BB_RUN_NONE;
+    uint64_t line = 99;
+    size_t len = 0;
+    return bb_resume(&run, (const uint8_t *)data, strlen(data), (const uint8_t *)natives, strlen(natives), 0,
+                     (const uint8_t *)log, strlen(log), &line) == BB_REFUSED
+        && line == wanted && bb_read(&run, NULL, 0, &len) == BB_MISUSE;
+}
+
+/* The text of each move is had before it is made, and from these texts another run comes to the same. */
+static int a_run_is_taken_up_again(void)
+{
+    bb_run run = BB_RUN_NONE, again = BB_RUN_NONE;
+    history log = {{0}, 0};
+    uint64_t line = 99, unit = 0, number = 0;
+    int64_t weight = 0;
+    size_t len = 7;
+    uint8_t text[3] = "as";
+    WANT(bb_history(&run, BB_MOVE_TURN, 0, NULL, 0, &len) == BB_MISUSE && len == 7);
+    WANT(bb_open(&run, BB_S(input), BB_S("weigh"), 0) == BB_GOING);
+    WANT(keeps(&log, &run, BB_MOVE_TURN, 7, "turn\n"));
+    WANT(bb_turn(&run) == BB_RESTING);
+    WANT(bb_ask_new(&run, BB_S("box")) == BB_OK && bb_ask_say(&run, BB_S("gr\xc3\xbcn \"1\"")) == BB_OK);
+    WANT(keeps(&log, &run, BB_MOVE_POST, 0, "post\nnew box\nsay \"gr\xc3\xbcn \\\"1\\\"\"\nend\n"));
+    WANT(bb_post(&run) == BB_GOING);
+    WANT(keeps(&log, &run, BB_MOVE_ADVANCE, 4294967295, "advance 4294967295\n"));
+    WANT(bb_advance(&run, 4294967295) == BB_DUE);
+    WANT(bb_resume(&again, BB_S(input), BB_S("weigh"), 0, log.text, log.len, &line) == BB_DUE && line == 0);
+    WANT(bb_due(&again, &unit, NULL, 0, &len) == BB_OK && unit == 1 && len == strlen("weigh"));
+    line = 99;
+    WANT(bb_resume(&again, BB_S(input), BB_S("weigh"), 0, log.text, log.len, &line) == BB_MISUSE && line == 0);
+    bb_close(&again);
+
+    /* The move is logged, and the host is killed before it is made. */
+    WANT(bb_ask_int(&run, 1, BB_S("weight"), 7) == BB_OK && bb_ask_new(&run, BB_S("box")) == BB_OK);
+    WANT(keeps(&log, &run, BB_MOVE_ANSWER, 0, "answer\nset 1 weight 7\nnew box\nend\n"));
+    WANT(bb_resume(&again, BB_S(input), BB_S("weigh"), 0, log.text, log.len, &line) == BB_GOING);
+    WANT(bb_int(&again, 1, BB_S("weight"), &weight) == BB_OK && weight == 7);
+    WANT(bb_int(&run, 1, BB_S("weight"), &weight) == BB_OK && weight == 0);
+    WANT(bb_answer(&run) == BB_GOING);
+    WANT(bb_next(&run) == 3 && bb_next(&again) == 3 && bb_made(&run) == 1 && bb_made(&again) == 1);
+    WANT(bb_choice(&run, &number) == BB_OK && number == 2 && bb_choice(&again, &number) == BB_OK && number == 2);
+    for (int it = 0; it < 2; it++) {
+        bb_run *one = it == 0 ? &run : &again;
+        WANT(tells(one, "quiescence\npost\ncreate 1 box\nsay \"gr\xc3\xbcn \\\"1\\\"\"\nend post 2\ntrigger 1 weigh unit 1 rating 10\n"
+                        "cycle 1 act 1 weigh unit 1 rating 10\nset 1.weight\ncreate 2 box\nend native 2\ntrigger 2 weigh unit 2 rating 10\n"));
+        WANT(bb_turn(one) == BB_DUE && bb_answer(one) == BB_GOING && bb_turn(one) == BB_RESTING);
+        WANT(tells(one, "cycle 2 act 2 weigh unit 2 rating 10\nend native 0\nquiescence\n"));
+    }
+
+    /* What has no text: a name that is none, a move that is none, and a run that was finished. */
+    len = 7;
+    WANT(bb_ask_new(&run, BB_S("a box")) == BB_OK);
+    WANT(bb_history(&run, BB_MOVE_POST, 0, text, sizeof text, &len) == BB_REFUSED && len == 7 && memcmp(text, "as", 3) == 0);
+    WANT(bb_history(&run, 4, 0, text, sizeof text, &len) == BB_REFUSED && len == 7);
+    WANT(bb_discard(&run) == BB_OK && bb_history(&run, BB_MOVE_POST, 0, text, 2, &len) == BB_OK);
+    WANT(len == strlen("post\nend\n") && memcmp(text, "po", 3) == 0);
+    WANT(bb_finish(&run) == BB_DONE && bb_history(&run, BB_MOVE_TURN, 0, NULL, 0, &len) == BB_MISUSE);
+    bb_close(&run);
+    bb_close(&again);
+
+    /* What is no history: a line that is cut, a post without its end, and bytes that are no text. */
+    WANT(refuses(input, "weigh", "turn\nadva", 2));
+    WANT(refuses(input, "weigh", "# morning\n\npost\n  new box\n  set 1 weight", 5));
+    WANT(refuses(input, "weigh", "post\nnew box\n", 3));
+    WANT(refuses(input, "weigh", "say \"\xc3", 0));
+    WANT(refuses(input, "weigh\xff", "turn\n", 0));
+    WANT(refuses(input, "", "turn\n", 0));
+    WANT(refuses("%schema\n{", "", "nothing", 0));
+    WANT(bb_resume(&run, BB_S(input), BB_S("weigh"), 0, NULL, 9, &line) == BB_GOING);
+    bb_close(&run);
+    return 0;
+}
+
 int main(void)
 {
-    return asks_stay() || refusals_are_told() || null_is_nothing() || a_handle_without_a_run();
+    return asks_stay() || refusals_are_told() || null_is_nothing() || a_handle_without_a_run() || a_run_is_taken_up_again();
 }

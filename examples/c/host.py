@@ -9,7 +9,7 @@ The library is that of crates/bb_c, as a shared one. The status is the call's, o
 import ctypes
 import sys
 
-VERSION = 3
+VERSION = 4
 RUN = 0
 ROOM = 6
 

@@ -9,7 +9,7 @@ from ctypes import POINTER, c_char_p, c_int64, c_size_t, c_uint8, c_uint32, c_ui
 from pathlib import Path
 from typing import Any
 
-VERSION = 3
+VERSION = 4
 RUN = 0
 
 # Statuses.
@@ -17,6 +17,9 @@ OK = RESTING = DONE = 0
 NONE = 1
 REFUSED, GOING, FULL, MEMORY, ROOM, DUE, MISUSE = 2, 3, 4, 5, 6, 8, 9
 LIMIT = GOING
+
+# The moves that have a text.
+MOVE_TURN, MOVE_ADVANCE, MOVE_POST, MOVE_ANSWER = 0, 1, 2, 3
 
 # The environment's variable that names the library.
 VARIABLE = "RAILCITRON_LIBRARY"
@@ -79,6 +82,8 @@ CALLS: dict[str, tuple[Any, list[Any]]] = {
     "bb_document": (c_uint8, [_RUN, *_TEXT]),
     "bb_most_steps": (c_uint8, [_RUN, c_uint32, POINTER(c_uint64)]),
     "bb_creates": (c_uint8, [_RUN, c_char_p]),
+    "bb_history": (c_uint8, [_RUN, c_uint8, c_uint32, *_TEXT]),
+    "bb_resume": (c_uint8, [_RUN, *_BYTES, *_BYTES, c_int64, *_BYTES, _UNIT]),
     "bb_read": (c_uint8, [_RUN, *_BYTES, POINTER(c_size_t)]),
     "bb_skip": (c_uint8, [_RUN]),
     "bb_finish": (c_uint8, [_RUN]),

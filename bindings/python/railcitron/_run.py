@@ -17,6 +17,7 @@ from ._looks import Ending, Looks
 
 Native = Callable[[int, Asks], object]
 Given = TypeVar("Given", bound=Native)
+Keeper = Callable[[str], object]
 
 # The cycles that one call makes, at most.
 _SLICE = 1 << 10
@@ -24,6 +25,7 @@ _SLICE = 1 << 10
 _ENDINGS: dict[int, Ending] = {calls.DONE: "quiescence", calls.LIMIT: "limit", calls.FULL: "full"}
 _STATES = {calls.RESTING: "at rest", calls.GOING: "going", calls.FULL: "full", calls.MEMORY: "out of memory", calls.DUE: "due"}
 _NATIVE = re.compile(r"[a-z][a-z0-9_]*")
+_STEPS = {"bb_turn": calls.MOVE_TURN, "bb_advance": calls.MOVE_ADVANCE, "bb_post": calls.MOVE_POST, "bb_answer": calls.MOVE_ANSWER}
 _REFUSED = re.compile(r"^refused ask ([0-9]+) ([0-9]+)$", re.M)
 
 
@@ -58,6 +60,10 @@ class Run(Looks):
     functions: `natives={"weigh": weigh}`, or `natives=["weigh"]` and later `run.native("weigh")`. No activation rated
     below `floor` is chosen. `library` is what `load` returns, or a path; None is the usual one.
 
+    `keep_history` has the run keep its moves as text, from which `resume` takes the run up again. A function receives the
+    text of each move before the move is made: `keep_history=log.write` with a file that is written through, as
+    `open(name, "a", buffering=1)`. What it raises leaves the move, which is not made. With True, `history` returns the texts.
+
     `with` closes the run. It stays on its thread: a thread that ends without closing it leaks it. `for unit in run` gives
     the numbers of all units, ascending, and `unit in run` says whether a unit is live.
 
@@ -72,14 +78,58 @@ class Run(Looks):
         natives: Iterable[str] | Mapping[str, Native | None] = (),
         floor: int = 0,
         library: str | os.PathLike[str] | ctypes.CDLL | None = None,
+        keep_history: bool | Keeper = False,
     ) -> None:
+        self._begin(data, natives, floor, library, keep_history, None)
+
+    @classmethod
+    def resume(
+        cls,
+        data: str | bytes | bytearray | memoryview,
+        history: str | bytes | bytearray | memoryview,
+        *,
+        natives: Iterable[str] | Mapping[str, Native | None] = (),
+        floor: int = 0,
+        library: str | os.PathLike[str] | ctypes.CDLL | None = None,
+        keep_history: bool | Keeper = False,
+    ) -> Run:
+        """Takes a run up again: begins the run of an input, and makes the moves of a history of it, with the same natives and
+        floor. No function of a native is called, as their answers are in the history. `read` returns the trace from its
+        start. The history that the run keeps has the moves from here on, so it goes behind the other one.
+
+        Raises `Refused` if a line of the history is wrong, or if the history ends in the middle of a post or an answer;
+        `UnicodeDecodeError` if it is not UTF-8; and what `Run` raises.
+        """
+        run = cls.__new__(cls)
+        run._begin(data, natives, floor, library, keep_history, _input(history))
+        return run
+
+    def _begin(
+        self,
+        data: str | bytes | bytearray | memoryview,
+        natives: Iterable[str] | Mapping[str, Native | None],
+        floor: int,
+        library: str | os.PathLike[str] | ctypes.CDLL | None,
+        keep_history: bool | Keeper,
+        history: bytes | None,
+    ) -> None:
+        """Opens the run, or takes it up again."""
         given = _input(data)
         self._natives = _natives(natives)
         self._asks: Asks | None = None
         self._stands = calls.MISUSE
+        self._history: list[str] | None = [] if keep_history is True else None
+        self._keep: Keeper | None = keep_history if callable(keep_history) else None
         super().__init__(given, library)
         opened = (given, len(given), *as_bytes("\n".join(self._natives)), as_int(floor))
-        stands = self._call("bb_open", *opened)
+        line = ctypes.c_uint64()
+        if history is None:
+            stands = self._call("bb_open", *opened)
+        else:
+            history.decode()
+            stands = self._call("bb_resume", *opened, history, len(history), ctypes.byref(line))
+        if stands == calls.REFUSED and line.value:
+            raise Refused(None, f"the history is none: line {line.value} is wrong, or is missing in a post or an answer")
         if stands == calls.REFUSED:
             raise Refused(*calls.why_refused(self._library, *opened))
         if stands == calls.MEMORY:
@@ -179,6 +229,11 @@ class Run(Looks):
         finally:
             asks._is_open, self._asks = False, None
         self._hear()
+        try:
+            self._before(move)
+        except BaseException:
+            self._call("bb_discard")
+            raise
         stands = self._call(move)
         if stands == calls.MISUSE:
             self._call("bb_discard")
@@ -191,8 +246,33 @@ class Run(Looks):
         if self._asks is not None:
             raise Misuse("asks are gathered: no other move is made before the end of their block")
 
+    def _before(self, move: str, cycles: int = 0) -> None:
+        """Keeps the text of a move that is about to be made, if the run keeps a history."""
+        if self._keep is None and self._history is None:
+            return
+        try:
+            text = self._text("bb_history", _STEPS[move], cycles)
+        except Refused:
+            raise Refused(None, "an ask has a class, a slot or a space that is no name, and a history can't tell it") from None
+        if text is not None and self._history is not None:
+            self._history.append(text)
+        elif text is not None and self._keep is not None:
+            self._keep(text)
+
+    def history(self) -> str:
+        """Returns the moves that were made since it was called last, as text. Each is returned once: append them to a log.
+
+        Raises `Misuse` if the run does not keep its moves, or passes them to a function.
+        """
+        if self._history is None:
+            raise Misuse("the run keeps no history, or passes it to a function")
+        kept, self._history = "".join(self._history), []
+        return kept
+
     def _move(self, name: str, *passed: Any) -> int:
         self._want_no_asks()
+        if self._stands == calls.GOING:
+            self._before(name, *passed)
         self._stands = self._call(name, *passed)
         return self._stands
 

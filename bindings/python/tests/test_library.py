@@ -361,7 +361,7 @@ source tidy on note { when create note; rate 10; do { with n = it as note { leav
         at = f"\n  | source hail, line 1 of %sources\n  | {text}\n  | {(word - 1) * ' '}^"
         for data, refusal, begins, ends in (
             (b"%schema\n{", "schema 1", "input:2:2: error[schema 1]: it is not JSON\n", "\n  | line 1 of %schema\n  | {\n  |  ^"),
-            (b"\xff", "input utf8", "input: it is not UTF-8", "UTF-8"),
+            (b"\xff", "input utf8", "input: error[input utf8]: it is not UTF-8", "UTF-8"),
             (f"{SCHEMA}%sources\n{text}\n", f"compile hail 1:{column} 1", f"input:{line}:{word}: error[compile 1]: ", at),
         ):
             with self.assertRaises(railcitron.Refused) as caught:
@@ -403,6 +403,117 @@ source tidy on note { when create note; rate 10; do { with n = it as note { leav
         with railcitron.Run(f"{SCHEMA}%units\n{document}\n".encode()) as run:
             self.assertEqual(run.document(), document)
             self.assertEqual(run.links(1, "last"), [2])
+
+    def test_a_run_is_taken_up_again(self):
+        """A day whose host is killed at each text that its log receives: the log gives the run after the move."""
+        data = SCHEMA + """%sources
+source count on note { when create note; rate 50; native; }
+source hail on note { when update note.count; rate 100; do { say it; } }
+source later on note { when create note; rate 10; do { with n = it as note { leave n wall; } } }
+"""
+
+        class Killed(Exception):
+            pass
+
+        def count(unit, asks):
+            asks.set(unit, "count", -(1 << 63))
+            if unit == 1:
+                asks.new("note")
+
+        def note(run):
+            with run.post() as asks:
+                it = asks.new("note")
+                asks.set(it, "text", 'grün "a" \\ \n\u2028')
+                asks.set(it, "hue", "blue")
+                asks.set(it, "span", Interval(-1, 4))
+                asks.set(it, "seen", True)
+                asks.enter(it, "wall")
+                asks.delete(99)
+
+        def focus(run):
+            with run.post() as asks:
+                it = asks.new("focus")
+                asks.set(it, "source", "later")
+                asks.set(it, "weight", 1000)
+                asks.link(1, "next", 2)
+
+        day = [note, lambda run: run.turn(), lambda run: run.advance(1), focus, lambda run: run.advance(9), note, lambda run: run.advance(9)]
+
+        def seen(run):
+            return run.read(), run.next, run.made, run.due, run.pending(), run.choice, run.document()
+
+        def lives(keep):
+            with railcitron.Run(data, natives={"count": count}, keep_history=keep) as run:
+                for move in day:
+                    move(run)
+                return seen(run), run.finish()
+
+        whole = []
+        ends = lives(whole.append)
+        self.assertGreater(len(whole), len(day))
+        self.assertIn('set 1 text "grün \\"a\\" \\\\ \\n\u2028"\n', whole[0])
+        stands = []
+        for moves in range(len(whole) + 1):
+            log = []
+
+            def keep(text):
+                if len(log) == moves:
+                    raise Killed
+                log.append(text)
+
+            if moves < len(whole):
+                self.assertRaises(Killed, lives, keep)
+            self.assertEqual(log, whole[:moves] if moves < len(whole) else [])
+            with railcitron.Run.resume(data, "".join(whole[:moves]), natives=["count"], keep_history=True) as run:
+                stands.append(seen(run))
+                self.assertEqual(run.history(), "")
+        self.assertEqual(stands[-1], ends[0])
+        for past, later in zip(stands, stands[1:]):
+            self.assertTrue(later[0].startswith(past[0]))
+        with railcitron.Run.resume(data, "".join(whole), natives=["count"]) as run:
+            run.read()
+            self.assertEqual(run.finish(), ends[1])
+
+    def test_a_run_goes_on_as_it_would_have(self):
+        """Two runs, one of them taken up again in the middle, and then moved alike."""
+
+        def told(run, notes):
+            read = run.read()
+            for _ in range(notes):
+                with run.post() as asks:
+                    asks.set(asks.new("note"), "text", "ü")
+                run.advance(1)
+            return read, run.read(), run.next, run.made, run.pending(), run.document()
+
+        with railcitron.Run(DATA, keep_history=True) as run:
+            past = told(run, 3)
+            log = run.history()
+            with railcitron.Run.resume(DATA, log, keep_history=True) as again:
+                self.assertEqual(again.read(), past[0] + past[1])
+                self.assertEqual(told(again, 2), told(run, 2))
+                self.assertEqual(again.history(), run.history())
+                self.assertEqual(again.finish(), run.finish())
+
+    def test_a_log_that_is_cut(self):
+        log = 'post\nnew note\nset 1 text "ü"\nend\nadvance 3\nturn\n'
+        with railcitron.Run(DATA) as run:
+            with run.post() as asks:
+                asks.set(asks.new("note"), "text", "ü")
+            run.advance(3)
+            wanted = run.read()
+        with railcitron.Run.resume(DATA, log) as run:
+            self.assertEqual((run.read(), run.get(1, "text")), (wanted, "ü"))
+        for cut, line in (('turn\n', 6), ("3\nturn\n", 5), ("end\nadvance 3\nturn\n", 4), ('ü"\nend\nadvance 3\nturn\n', 3)):
+            with self.assertRaisesRegex(railcitron.Refused, f"line {line} "):
+                railcitron.Run.resume(DATA, log.removesuffix(cut) + ("t" if cut == "turn\n" else ""))
+
+    def test_a_name_that_a_history_can_not_tell(self):
+        with railcitron.Run(DATA, keep_history=True) as run:
+            with self.assertRaises(railcitron.Refused), run.post() as asks:
+                asks.set(9, "no name", 1)
+            with run.post() as asks:
+                asks.set(9, "name", 1)
+            self.assertEqual((asks.refused, run.history()), ([(1, 1)], "post\nset 9 name 1\nend\n"))
 
     def test_refused(self):
         with self.assertRaises(railcitron.Refused) as caught:

@@ -45,6 +45,7 @@ class Library:
         self.classes = dict(classes)
         self.told = {"bb_refusal": told, "bb_explain": message}
         self.waiting = {}
+        self.line = 0
         self.statuses = {name: list(it) for name, it in statuses.items()}
         self.called = []
 
@@ -126,6 +127,20 @@ class Library:
     def bb_answer(self, run):
         self.due.pop(0)
         return self.answer("bb_answer", run, ())
+
+    def bb_history(self, run, step, cycles, room, size, length):
+        if status := self.answer("bb_history", run, (step, cycles)):
+            return status
+        text = (b"turn\n", b"advance %d\n" % cycles, b"post\nend\n", b"answer\nend\n")[step]
+        room[: len(text)] = text
+        length._obj.value = len(text)
+        return 0
+
+    def bb_resume(self, run, *passed):
+        status = self.answer("bb_resume", run, passed[:-1])
+        passed[-1]._obj.value = self.line
+        run._obj.is_open = status in (0, 3, 4, 8)
+        return status
 
     def bb_refusal(self, *passed):
         return self.tell("bb_refusal", *passed)
@@ -280,6 +295,87 @@ class Agenda(unittest.TestCase):
             library.waiting = {3: (b"hail", 7, -5, 12), 9: (b"greet", 0, 1, 13)}
             hail, greet = railcitron.Activation(3, "hail", 7, -5, 12), railcitron.Activation(9, "greet", None, 1, 13)
             self.assertEqual((run.pending(), run.choice), ([hail, greet], greet))
+
+
+class Histories(unittest.TestCase):
+    def test_each_move_is_kept_before_it_is_made(self):
+        library = Library(bb_open=[3], bb_turn=[3], bb_advance=[8, 0], bb_answer=[3], bb_post=[3], due=[(7, "weigh")])
+        with railcitron.Run(b"", natives={"weigh": lambda unit, asks: None}, library=library, keep_history=True) as run:
+            self.assertEqual(run.history(), "")
+            run.turn()
+            self.assertEqual((run.history(), run.history()), ("turn\n", ""))
+            run.advance(7)
+            with run.post() as asks:
+                asks.say("")
+            self.assertEqual(run.history(), "advance 7\nanswer\nend\nadvance 7\npost\nend\n")
+        moves = ["bb_turn", "bb_advance", "bb_answer", "bb_advance", "bb_post"]
+        told = [it for it in library.called if it[0] in ("bb_history", *moves)]
+        self.assertEqual([it[0] for it in told], [name for it in moves for name in ("bb_history", it)])
+        self.assertEqual([it[1:] for it in told[::2]], [(0, 0), (1, 7), (3, 0), (1, 7), (2, 0)])
+
+    def test_what_changes_nothing_is_not_kept(self):
+        library = Library(bb_open=[3], bb_turn=[0, 0], bb_advance=[0])
+        with railcitron.Run(b"", library=library, keep_history=True) as run:
+            run.turn(), run.turn(), run.advance(3)
+            self.assertEqual(run.history(), "turn\n")
+
+    def test_a_function_receives_them(self):
+        kept, library = [], Library(bb_open=[3], bb_turn=[3])
+        with railcitron.Run(DATA, library=library, keep_history=kept.append) as run:
+            run.turn()
+            self.assertRaises(railcitron.Misuse, run.history)
+        self.assertEqual(kept, ["turn\n"])
+
+    def test_a_function_that_raises(self):
+        def keep(text):
+            raise OSError("the disk is full")
+
+        library = Library(bb_open=[3])
+        with railcitron.Run(DATA, library=library, keep_history=keep) as run:
+            self.assertRaises(OSError, run.turn)
+            with self.assertRaises(OSError), run.post() as asks:
+                asks.say("")
+        self.assertFalse({"bb_turn", "bb_post"} & {*library.names()})
+        self.assertEqual(library.names()[-3:], ["bb_history", "bb_discard", "bb_close"])
+
+    def test_a_text_that_is_not_made(self):
+        for status, fault in ((2, railcitron.Refused), (5, railcitron.OutOfMemory), (9, railcitron.Misuse)):
+            library = Library(bb_open=[3], bb_history=[status])
+            with railcitron.Run(b"", library=library, keep_history=True) as run:
+                with self.assertRaises(fault), run.post():
+                    pass
+                self.assertEqual(run.history(), "")
+            self.assertNotIn("bb_post", library.names())
+
+    def test_a_run_that_keeps_none(self):
+        library = Library(bb_open=[3])
+        with railcitron.Run(b"", library=library) as run:
+            run.turn()
+            self.assertRaises(railcitron.Misuse, run.history)
+        self.assertNotIn("bb_history", library.names())
+
+    def test_one_that_is_taken_up_again(self):
+        for history in ("post\nsay \"ü\"\nend\n", bytearray("post\nsay \"ü\"\nend\n".encode())):
+            library = Library(bb_resume=[3])
+            with railcitron.Run.resume("input", history, natives=["weigh"], floor=-1, library=library, keep_history=True) as run:
+                self.assertEqual((repr(run), run.history()), ("<railcitron.Run: going>", ""))
+                run.turn()
+                self.assertEqual(run.history(), "turn\n")
+            self.assertEqual(library.called[0], ("bb_resume", b"input", 5, b"weigh", 5, -1, "post\nsay \"ü\"\nend\n".encode(), 18))
+            self.assertNotIn("bb_open", library.names())
+
+    def test_a_history_that_is_none(self):
+        library = Library(bb_resume=[2])
+        library.line = 7
+        with self.assertRaisesRegex(railcitron.Refused, "line 7") as caught:
+            railcitron.Run.resume(b"", "turn\n", library=library)
+        self.assertIsNone(caught.exception.line)
+        self.assertNotIn("bb_refusal", library.names())
+        with self.assertRaisesRegex(railcitron.Refused, "it is not JSON"):
+            railcitron.Run.resume(b"", "", library=Library(bb_resume=[2]))
+        self.assertRaises(MemoryError, railcitron.Run.resume, b"", "", library=Library(bb_resume=[5]))
+        self.assertRaises(UnicodeDecodeError, railcitron.Run.resume, b"", b"say \"\xc3", library=Library())
+        self.assertRaises(TypeError, railcitron.Run.resume, b"", ["turn"], library=Library())
 
 
 class Posts(unittest.TestCase):
@@ -626,12 +722,12 @@ class Calls(unittest.TestCase):
         def library(version, *lacks):
             return SimpleNamespace(**{name: lambda: version for name in _library.CALLS if name not in lacks})
 
-        self.assertEqual(_library.with_types(library(3), "libbb.so").bb_post.argtypes, [ctypes.POINTER(_library.Handle)])
+        self.assertEqual(_library.with_types(library(4), "libbb.so").bb_post.argtypes, [ctypes.POINTER(_library.Handle)])
         for it, told in (
-            (library(2, "bb_explain"), "libbb.so has version 2 of the calls, and this package needs version 3"),
-            (library(4), "libbb.so has version 4 of the calls, and this package needs version 3"),
-            (library(3, "bb_creates"), "libbb.so has version 3 of the calls, as this package, but not bb_creates"),
-            (library(3, "bb_version"), "libbb.so has calls of another kind, but not bb_version"),
+            (library(3, "bb_history"), "libbb.so has version 3 of the calls, and this package needs version 4"),
+            (library(5), "libbb.so has version 5 of the calls, and this package needs version 4"),
+            (library(4, "bb_creates"), "libbb.so has version 4 of the calls, as this package, but not bb_creates"),
+            (library(4, "bb_version"), "libbb.so has calls of another kind, but not bb_version"),
         ):
             with self.assertRaises(OSError) as caught:
                 _library.with_types(it, "libbb.so")

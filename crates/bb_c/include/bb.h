@@ -11,7 +11,7 @@ extern "C" {
 #endif
 
 /* The version of the calls declared here. Check that `bb_version()`, the library's own, equals it. */
-#define BB_VERSION 3
+#define BB_VERSION 4
 
 /* Modes of `bb_serve`. BB_UNITS runs the input and writes a document of the units that are left, not the trace. */
 enum { BB_RUN = 0, BB_CHECK = 1, BB_COMPILE = 2, BB_UNITS = 3 };
@@ -101,16 +101,16 @@ typedef struct bb_run {
 /* A literal: its bytes and its length. */
 #define BB_S(text) (const uint8_t *)(text), sizeof(text) - 1
 
-/* What a call on a run returns. A move (`bb_open`, `bb_turn`, `bb_advance`, `bb_post`, `bb_answer`) returns the state
-   of the run: BB_RESTING, BB_GOING, BB_DUE, or BB_FULL if it is over because there is no room for another unit or
-   activation. Every call can return these:
+/* What a call on a run returns. A move (`bb_open`, `bb_resume`, `bb_turn`, `bb_advance`, `bb_post`, `bb_answer`)
+   returns the state of the run: BB_RESTING, BB_GOING, BB_DUE, or BB_FULL if it is over because there is no room for
+   another unit or activation. Every call can return these:
 
    - BB_REFUSED: the input, a name or a value is refused. Nothing was done.
    - BB_MEMORY: memory ran out. If it ran out in this move or an earlier one, the run can only be read and closed, and
-     the blackboard may be as it was in the middle of the move. After `bb_open` there is no run. Any other call did
-     nothing, and may be tried again.
-   - BB_MISUSE: the run does not exist, or was finished; for `bb_open`, it is already open; for `bb_post`, a native is
-     due; for `bb_answer`, none is. Nothing was done, and the gathered asks stay. */
+     the blackboard may be as it was in the middle of the move. After `bb_open` and `bb_resume` there is no run. Any
+     other call did nothing, and may be tried again.
+   - BB_MISUSE: the run does not exist, or was finished; for `bb_open` and `bb_resume`, it is already open; for
+     `bb_post`, a native is due; for `bb_answer`, none is. Nothing was done, and the gathered asks stay. */
 enum {
     BB_OK = 0,      /* the call was made */
     BB_NONE = 1,    /* nothing was found */
@@ -244,6 +244,46 @@ uint8_t bb_document(bb_run *run, uint8_t *to, size_t to_len, size_t *len);
 uint8_t bb_most_steps(bb_run *run, uint32_t found, uint64_t *steps);
 uint8_t bb_creates(bb_run *run, uint8_t *creates);
 
+/* ---- The history of a run
+
+   A host that may be killed keeps a log: it asks for the text of each move, and has it written to the log, before it
+   makes the move. Then the input and the log restore the run, with its agenda and all numbers:
+
+       uint8_t told = bb_history(&run, BB_MOVE_TURN, 0, text, sizeof text, &len);
+       if (told != BB_OK || fwrite(text, 1, len, log) != len || fflush(log) != 0)
+           return stop();
+       stands = bb_turn(&run); */
+
+/* The moves that `bb_history` has the text of. */
+enum {
+    BB_MOVE_TURN = 0,
+    BB_MOVE_ADVANCE = 1, /* by `cycles` */
+    BB_MOVE_POST = 2,    /* of the asks gathered so far */
+    BB_MOVE_ANSWER = 3   /* with the asks gathered so far */
+};
+
+/* The text of a move that is about to be made, by its number: whole lines in the format of docs/users/formats/moves.md.
+   As many bytes as `to_len` allows are written into `to`, and the whole length into `len`: if that is more than
+   `to_len`, the rest is missing. `cycles` counts for an advance alone. The run and the gathered asks are unchanged, and
+   the move is not made. BB_REFUSED: there is no such move; or an ask has a class, a slot or a space that is no name,
+   which the format can't tell. `bb_discard` drops the asks then; the run would refuse such an ask anyway. */
+uint8_t bb_history(bb_run *run, uint8_t step, uint32_t cycles, uint8_t *to, size_t to_len, size_t *len);
+
+/* Begins the run of an input as `bb_open` does, and makes the moves of a history: texts of `bb_history`, one after the
+   other, for an input, natives and a floor that are the same. The host need not answer for natives, as its answers are
+   in the history. The run is as it was after these moves: units, numbers, agenda, cycles, and a native that is due. Its
+   trace is read from its start, so a host that has it reads and drops it. Returns the state of the run, as a move does.
+   BB_REFUSED, and there is no run: the history has a line that is wrong, and `line` is its number, from 1, or the one
+   after the last if the history ends in a post or an answer; or the input is refused, or the names of natives or the
+   history are not UTF-8, and `line` is 0. With any other status `line` is 0.
+
+   If the host was killed while it wrote to its log, the log may end in the middle of a move, which was not made. Cut
+   that off before: what comes after the last line feed, and then a last `post` or `answer` without its `end`. */
+uint8_t bb_resume(bb_run *run, const uint8_t *input, size_t input_len, const uint8_t *natives, size_t natives_len,
+                  int64_t floor, const uint8_t *history, size_t history_len, uint64_t *line);
+
+/* ---- The trace, and the end of a run */
+
 /* Reads the part of the trace that was not read yet: as many bytes as `to_len` allows are written into `to`, and their
    number into `len`, which is 0 once everything is read. Each byte is read once. After each move, all that it added to
    the trace can be read. A run keeps in memory what was not read: a host that does not need it calls `bb_skip` after
@@ -299,6 +339,20 @@ static inline uint8_t bb_open_or_null(bb_run *run, const uint8_t *input, size_t 
 {
     return bb_open(run, bb_bytes(input), bb_len(input, input_len), bb_bytes(natives), bb_len(natives, natives_len),
                    floor);
+}
+
+static inline uint8_t bb_resume_or_null(bb_run *run, const uint8_t *input, size_t input_len, const uint8_t *natives,
+                                        size_t natives_len, int64_t floor, const uint8_t *history, size_t history_len,
+                                        uint64_t *line)
+{
+    return bb_resume(run, bb_bytes(input), bb_len(input, input_len), bb_bytes(natives), bb_len(natives, natives_len),
+                     floor, bb_bytes(history), bb_len(history, history_len), line);
+}
+
+static inline uint8_t bb_history_or_null(bb_run *run, uint8_t step, uint32_t cycles, uint8_t *to, size_t to_len,
+                                         size_t *len)
+{
+    return bb_history(run, step, cycles, bb_room(to), bb_len(to, to_len), len);
 }
 
 static inline uint8_t bb_refusal_or_null(const uint8_t *input, size_t input_len, const uint8_t *natives,
@@ -389,6 +443,8 @@ static inline uint8_t bb_read_or_null(bb_run *run, uint8_t *to, size_t to_len, s
 }
 
 #define bb_open(...) bb_open_or_null(__VA_ARGS__)
+#define bb_resume(...) bb_resume_or_null(__VA_ARGS__)
+#define bb_history(...) bb_history_or_null(__VA_ARGS__)
 #define bb_refusal(...) bb_refusal_or_null(__VA_ARGS__)
 #define bb_explain(...) bb_explain_or_null(__VA_ARGS__)
 #define bb_ask_text(...) bb_ask_text_or_null(__VA_ARGS__)

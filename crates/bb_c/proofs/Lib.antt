@@ -3,3 +3,4 @@ pub mod Heap
 pub mod MisuseLemmas
 pub mod ServedLemmas
 pub mod OpenLemmas
+pub mod PastLemmas

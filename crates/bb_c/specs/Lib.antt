@@ -8,3 +8,5 @@ pub mod Taken
 pub mod Called
 -- what a call that looks up something on its blackboard returns
 pub mod Looked
+-- what a call for the history of a run returns
+pub mod Past

@@ -8,6 +8,7 @@
 
 mod agenda;
 mod asks;
+mod history;
 mod input;
 mod looking;
 mod moves;
@@ -25,6 +26,7 @@ pub use asks::{
     bb_ask_bool, bb_ask_delete, bb_ask_enter, bb_ask_int, bb_ask_interval, bb_ask_label,
     bb_ask_leave, bb_ask_link, bb_ask_new, bb_ask_say, bb_ask_text, bb_ask_unlink, bb_discard,
 };
+pub use history::{bb_history, bb_resume};
 pub use looking::{bb_bool, bb_class, bb_int, bb_interval, bb_kind, bb_label, bb_links, bb_text};
 pub use moves::{bb_advance, bb_answer, bb_close, bb_finish, bb_open, bb_post, bb_turn};
 pub use overview::{bb_creates, bb_document, bb_due, bb_members, bb_most_steps, bb_units};

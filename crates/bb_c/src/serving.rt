@@ -10,7 +10,7 @@ use bb_main::{Mode, NativeSource, ProgramNative, serve};
 use std::alloc::Global;
 
 // The version of these calls. It is increased when a call is added, removed or changed in meaning.
-const VERSION: u32 = 3;
+const VERSION: u32 = 4;
 
 // The status of a refused input, and of a number that is not a mode.
 const REFUSED: u8 = 2;

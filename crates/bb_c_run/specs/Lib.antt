@@ -12,6 +12,8 @@ pub mod Looking
 pub mod Waiting
 -- what its sources can cost
 pub mod Costs
+-- the text of a move, and the run that a history leaves
+pub mod History
 -- of bb_shell: what an input means
 pub use Rattle.bb_shell.specs.Meaning
 -- of bb_run_held: what a host makes a run do, and what that means

@@ -19,6 +19,7 @@ use bb_shell::{Ask, Finish, HostedShell, InputFault, NativeSource, Out, Texts};
 use std::alloc::{AllocError, Global};
 use std::mem;
 
+mod history;
 mod looks;
 
 /// A held run, until it is finished; the part of its trace that was not read yet; and the asks that are gathered.
@@ -69,8 +70,8 @@ pub(crate) fn hosted(
     HostedShell::of_texts(alloc, &texts, no_natives(alloc), outside, floor)
 }
 
-// Makes the shell of an input whose host answers for natives with these names.
-fn shell_of(
+/// Makes the shell of an input whose host answers for natives with these names.
+pub(crate) fn shell_of(
     alloc: Global,
     input: &[u8],
     outside: Vec<Text>,

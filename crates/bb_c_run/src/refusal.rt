@@ -9,8 +9,8 @@ ghost use Rattle.bb_c_run.specs.Refused.{line_of};
 
 use crate::held::{hosted, names_in};
 use bb_basis::{Memory, Text};
-use bb_diag::{Input, report};
-use bb_main_input::{SectionReport, Sections};
+use bb_diag::{Input, report, report_input};
+use bb_main_input::{SectionFault, SectionReport, Sections};
 use bb_shell::InputFault;
 use std::alloc::{AllocError, Global};
 
@@ -39,14 +39,16 @@ pub fn why_refused(
         Ok(sections) => refusal_in(alloc, sections, outside, floor),
         Err(fault) => {
             let line = String::from_str(alloc, fault.line())?;
-            let message = SectionReport {
-                fault,
-                bytes: input,
-            }
-            .to_string(alloc)?;
+            let message = message_on(alloc, fault, input)?;
             Ok(Some(Refusal { line, message }))
         }
     }
+}
+
+// Returns the message on an input that has no sections.
+fn message_on(alloc: Global, fault: SectionFault, bytes: &[u8]) -> Result<String, Memory> {
+    let said = SectionReport { fault, bytes }.to_string(alloc)?;
+    report_input(alloc, fault.line(), said.as_str())
 }
 
 // Returns why the sections of an input are refused, if they are.

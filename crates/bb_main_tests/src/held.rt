@@ -1,6 +1,6 @@
 //! Tests of held runs that no case can make: moves, and reading the trace in pieces.
 
-use bb_c_run::{Held, OpenFault, SlotKind, Stands, Waits, why_refused};
+use bb_c_run::{Held, OpenFault, ResumeFault, SlotKind, Stands, Step, Waits, why_refused};
 use bb_shell::{Ask, Text, Value};
 use std::alloc::Global;
 use std::test::Fail;
@@ -44,6 +44,48 @@ fn a_day(rt: HostRuntime) -> Result<(), Fail> {
         finish quiescence\n";
     assert_eq!(rt; taken.as_slice(), expected.as_bytes());
     Ok(())
+}
+
+// Appends the text of a move to a log.
+fn log_move(held: &mut Held, step: Step, log: &mut String) -> Result<(), Fail> {
+    match held.told(step) {
+        Ok(text) => Ok(log.push_str(text.as_str())?),
+        Err(_) => Err(Fail::from("the move has a text")),
+    }
+}
+
+#[test]
+fn a_run_that_is_taken_up_again(rt: HostRuntime) -> Result<(), Fail> {
+    let alloc = rt.alloc();
+    let Ok(held) = Held::open(alloc, INPUT.as_bytes(), "", 0) else {
+        return Err(Fail::from("the run begins"));
+    };
+    let mut held = held;
+    let mut log = String::new(alloc);
+    held.ask(Ask::New {
+        class: Text::from_str(alloc, "note")?,
+    })?;
+    log_move(&mut held, Step::Post, &mut log)?;
+    log_move(&mut held, Step::Advance(5), &mut log)?;
+    assert_eq!(rt; log.as_str(), "post\nnew note\nend\nadvance 5\n");
+    let Ok(again) = Held::resume(alloc, INPUT.as_bytes(), "", 0, log.as_str()) else {
+        return Err(Fail::from("the run goes on"));
+    };
+    let mut again = again;
+    assert_eq!(rt; again.stands(), Stands::Resting);
+    assert_eq!(rt; again.next_unit(), 2);
+    Ok(())
+}
+
+#[test]
+fn a_history_that_is_cut(rt: HostRuntime) -> Result<(), Fail> {
+    match Held::resume(rt.alloc(), INPUT.as_bytes(), "", 0, "turn\nadva") {
+        Ok(_held) => Err(Fail::from("it is refused")),
+        Err(fault) => {
+            assert_eq!(rt; fault, ResumeFault::Line(2));
+            Ok(())
+        }
+    }
 }
 
 const SHOP: &str = "%schema\n\
@@ -113,8 +155,11 @@ fn why_an_input_is_refused(rt: HostRuntime) -> Result<(), Fail> {
     let message =
         "input:2:2: error[schema 1]: it is not JSON\n  | line 1 of %schema\n  | {\n  |  ^";
     assert!(rt; is_refused_by(alloc, b"%schema\n{", "refused schema 1", message)?);
-    let message = "input: it is not UTF-8";
+    let message = "input: error[input utf8]: it is not UTF-8";
     assert!(rt; is_refused_by(alloc, b"\xff", "refused input utf8", message)?);
+    let message =
+        "input:1: error[input sections]: its first line is not `%schema`, or a header line is out of order or there twice\n  | line 1: \"%schema\" is due there, not \"{}\"";
+    assert!(rt; is_refused_by(alloc, b"{}", "refused input sections", message)?);
     let message = "input: error[rule 8]: source price: there is no native of this name";
     assert!(rt; is_refused_by(alloc, PRICED.as_bytes(), "refused rule price 8", message)?);
     assert!(rt; why_refused(alloc, PRICED.as_bytes(), "weigh\nprice", 0)?.is_none());
