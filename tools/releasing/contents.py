@@ -20,7 +20,7 @@ COPIED = {
     "tools": ["tools/see", "tools/seeing", "tools/workbench", "tools/explain", "tools/messages", "tools/cases", "tools/casing"],
     "include": ["crates/bb_c/include/bb.h"],
     "python": ["examples/c/host.py", "bindings/python/pyproject.toml", "bindings/python/README.md", "bindings/python/railcitron"],
-    "python/examples": ["bindings/python/examples/press.py", "bindings/python/examples/scale.py"],
+    "python/examples": [f"bindings/python/examples/{it}.py" for it in ("press", "scale", "day")],
     "share/man/man1": ["tools/releasing/man/bbasm.1", "tools/releasing/man/railcitron-server.1"],
     "share/man/man5": ["tools/releasing/man/railcitron-input.5", "tools/releasing/man/railcitron-trace.5"],
     "share/bash-completion/completions": ["tools/releasing/completion/bb", "tools/releasing/completion/bbasm"],
