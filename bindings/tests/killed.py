@@ -15,7 +15,7 @@ import tempfile
 import time
 from pathlib import Path
 
-JOBS, SECONDS = 400, 120
+JOBS, SECONDS = 3000, 120
 
 
 def jobs(chance):
@@ -46,10 +46,10 @@ class Days:
         with subprocess.Popen(words, stderr=subprocess.PIPE, text=True) as host:
             while host.poll() is None and time.monotonic() < end:
                 if growth is not None and self.size(name) >= begin + growth:
-                    time.sleep(self.chance.uniform(0, 0.002))
+                    time.sleep(self.chance.uniform(0, 0.001))
                     host.send_signal(signal.SIGKILL)
                     break
-                time.sleep(0.0002)
+                time.sleep(0.0001)
             said = host.stderr.read()
             status = host.wait()
         if status not in (0, -signal.SIGKILL) or said:
@@ -64,7 +64,7 @@ def main():
         days = Days(program, Path(name), chance)
         days.lives("peace")
         # Each life gets a hundredth of the day further on average, or not at all: it is then killed while it takes the run up.
-        step = 1.6 * days.size("peace") / times
+        step = 1.5 * days.size("peace") / times
         kills = sum(days.lives("war", chance.uniform(0, step) if chance.random() < 0.9 else 0) for _ in range(times))
         done = days.size("war") / days.size("peace")
         days.lives("war")

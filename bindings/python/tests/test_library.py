@@ -325,7 +325,7 @@ source tidy on note { when create note; rate 10; do { with n = it as note { leav
             with self.assertRaises(railcitron.Refused) as caught:
                 railcitron.Run((SCHEMA + sources).encode(), natives=natives)
             self.assertEqual(caught.exception.line, f"refused rule {name} 8")
-            self.assertEqual(caught.exception.message, f"source {name}: there is no native of this name")
+            self.assertEqual(caught.exception.message, f"input: error[rule 8]: source {name}: there is no native of this name")
         with railcitron.Run(SCHEMA + sources, natives={"count": None, "later": None}) as run:
 
             @run.native("count")
