@@ -54,7 +54,7 @@ class Said:
     origin: str = "input"
     told: str = ""
     below: list[str] = field(default_factory=list)
-    # The line of the input that is shown, the column behind the word at its caret, or 0, and what is below without both.
+    # The line of the input that is shown, the column after the word at its caret, or 0, and what is below without both.
     excerpt: str | None = None
     end: int = 0
     beside: list[str] = field(default_factory=list)
@@ -126,7 +126,7 @@ def is_caret(notes: list[str], index: int) -> bool:
 
 
 def end_of(column: int, excerpt: str, caret: int) -> int:
-    """The column behind the word at a caret; 0 where no word stands there, or the line that is shown ends in it."""
+    """The column after the word at a caret; 0 where no word stands there, or the line that is shown ends in it."""
     first, last = span_at(excerpt, caret)
     is_cut = excerpt.endswith(MORE) and last > len(excerpt) - len(MORE) - 1
     return column + last - caret if column and first <= caret < last and not is_cut else 0

@@ -35,7 +35,7 @@ static int fail(const char *why)
     return EXIT_FAILURE;
 }
 
-/* All bytes of a file, and a zero behind them; or NULL. */
+/* All bytes of a file, and a zero after them; or NULL. */
 static uint8_t *read_file(const char *path, size_t *len)
 {
     FILE *file = fopen(path, "rb");

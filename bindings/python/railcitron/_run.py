@@ -95,7 +95,7 @@ class Run(Looks):
     ) -> Run:
         """Takes a run up again: begins the run of an input, and makes the moves of a history of it, with the same natives and
         floor. No function of a native is called, as their answers are in the history. `read` returns the trace from its
-        start. The history that the run keeps has the moves from here on, so it goes behind the other one.
+        start. The history that the run keeps has the moves from here on, so append it to the other one.
 
         Raises `Refused` if a line of the history is wrong, or if the history ends in the middle of a post or an answer;
         `UnicodeDecodeError` if it is not UTF-8; and what `Run` raises.

@@ -13,7 +13,7 @@ use Rattle.bb_c.specs.Called.{status_of}
 use Rattle.bb_c.specs.declared.history.TheConstants.{MOVE_TURN, MOVE_ADVANCE, MOVE_POST, MOVE_ANSWER}
 use Rattle.bb_c.specs.declared.status.TheConstants.{OK, MEMORY, MISUSE, REFUSED}
 
--- the move with a number; of an advance, by so many cycles
+-- the move with a number; an advance is by `cycles` cycles
 abbrev pub step_of : (number cycles : ℕ) → Option Step
 step_of number cycles =
     if number == MOVE_TURN then Some steps.Turn

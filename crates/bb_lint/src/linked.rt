@@ -135,7 +135,7 @@ impl Ops<'_> {
         }
     }
 
-    // Returns whether each partner of a walk is still linked to its unit at its turn, also behind other ops of the turn.
+    // Returns whether each partner of a walk is still linked to its unit throughout its iteration.
     fn keeps_links(&self, walk: Walk) -> bool {
         !(walk.first..walk.end).any(|place| self.changes(walk, place))
     }
